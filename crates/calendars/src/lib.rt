@@ -1,0 +1,5 @@
+//! Calendars of working days.
+pub mod weeks;
+
+pub use weeks::Week;
+pub use weeks::WeekCalendar;

@@ -1,0 +1,48 @@
+// Everything that a feed holds.
+ghost use Prim.Native.Nat.{_+_, _-_, _^_, min};
+ghost use mathlib.Core.Path.{_≡_};
+ghost use Rattle.tables.specs.Tables.{held, size as places};
+ghost use Rattle.engine.specs.State.{viewOf};
+ghost use Rattle.desk.specs.Holdings.{Answered, nextLine};
+ghost use Rattle.desk.specs.Views.{holdingOf};
+use crate::replies::Reply;
+use directory::PartyBook;
+use directory::PartyBookDirectory;
+use engine::Engine;
+use lines::Command;
+use lines::FaultReport;
+use lines::accept;
+use market::Calendar;
+use market::Outbox;
+use market::Register;
+
+// A register with its engine, an outbox, a directory and a calendar, and how many lines came.
+#[derive(Drop)]
+pub struct Desk<'a, 'b, 'c, 'd, 'e, 'f, R, O, C> {
+    engine: Engine<'a, R>,
+    outbox: &'b mut O,
+    directory: &'c mut PartyBook<'d, 'e>,
+    calendar: &'f C,
+    lines: u64,
+}
+
+impl<'a, 'b, 'c, 'd, 'e, 'f, R: Register, O: Outbox, C: Calendar> Desk<'a, 'b, 'c, 'd, 'e, 'f, R, O, C> {
+    pub fn new(register: &'a mut R, outbox: &'b mut O, directory: &'c mut PartyBook<'d, 'e>, calendar: &'f C) -> Self {
+        Desk { engine: Engine::new(register), outbox, directory, calendar, lines: 0 }
+    }
+
+    // Does what the line says, and tells the reply. Any bytes are answered.
+    pub fn line(&mut self, bytes: &[u8]) -> Reply
+        ensures { λ r. ⌜ Answered (now (bytes .entry)) (holdingOf look place waiting room size (now (self .entry))) r (holdingOf look place waiting room size (now (self .exit))) ⌝ }
+    {
+        self.lines = self.lines.saturating_add(1);
+        match accept(bytes) {
+            Err(fault) => Reply::Fault(FaultReport { line: self.lines, fault }),
+            Ok(Command::Party { number, role, qualified, sanctioned }) => {
+                Reply::to_addition(self.directory.add_party(number, role, qualified, sanctioned))
+            }
+            Ok(Command::Link { supplier, shipper }) => Reply::to_addition(self.directory.add_link(supplier, shipper)),
+            Ok(Command::Call(call)) => Reply::to_call(self.engine.apply(self.calendar, &*self.directory, self.outbox, call)),
+        }
+    }
+}

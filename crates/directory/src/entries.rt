@@ -1,0 +1,65 @@
+// What is listed of a party and of a link, and in which order.
+ghost use Rattle.tables.specs.Orders.{pairLess};
+ghost use Rattle.directory.specs.Entries.{partyKey, linkKey};
+use market::Role;
+use tables::KeyOrder;
+
+// A party in one of its roles.
+#[derive(Clone, Copy)]
+pub struct PartyEntry {
+    pub number: u16,
+    pub role: Role,
+    pub qualified: bool,
+    pub sanctioned: bool,
+}
+
+// The shipper ships for the supplier.
+#[derive(Clone, Copy)]
+pub struct LinkEntry {
+    pub supplier: u16,
+    pub shipper: u16,
+}
+
+// Parties by their numbers, and one party's entries by their roles.
+#[derive(Drop)]
+pub struct ByPartyAndRole;
+
+pub impl KeyOrder for ByPartyAndRole as PartiesByRole {
+    type Record = PartyEntry;
+
+    type Key = (u16, u8);
+
+    ghost own = { partyKey };
+
+    ghost less = { pairLess };
+
+    fn key(x: &PartyEntry) -> (u16, u8) {
+        (x.number, x.role.number())
+    }
+
+    fn below(a: &(u16, u8), b: &(u16, u8)) -> bool {
+        a.0 < b.0 || (a.0 == b.0 && a.1 < b.1)
+    }
+}
+
+// Links by their suppliers, and one supplier's links by their shippers.
+#[derive(Drop)]
+pub struct BySupplierAndShipper;
+
+pub impl KeyOrder for BySupplierAndShipper as LinksByPair {
+    type Record = LinkEntry;
+
+    type Key = (u16, u16);
+
+    ghost own = { linkKey };
+
+    ghost less = { pairLess };
+
+    fn key(x: &LinkEntry) -> (u16, u16) {
+        (x.supplier, x.shipper)
+    }
+
+    fn below(a: &(u16, u16), b: &(u16, u16)) -> bool {
+        a.0 < b.0 || (a.0 == b.0 && a.1 < b.1)
+    }
+}

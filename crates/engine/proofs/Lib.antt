@@ -1,0 +1,3 @@
+mod Sooner
+mod Posted
+mod Chains

@@ -1,0 +1,5 @@
+pub mod Earliest
+pub mod State
+pub mod Effects
+pub mod Table
+pub mod Outcome

@@ -1,0 +1,5 @@
+pub mod Numerals
+pub mod Splits
+pub mod Named
+pub mod Fields
+pub mod Chosen

@@ -1,0 +1,4 @@
+pub mod Numbers
+pub mod Looks
+pub mod Waits
+pub mod Codes

@@ -1,0 +1,2 @@
+mod Mailed
+pub mod Firsts

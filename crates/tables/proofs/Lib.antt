@@ -1,0 +1,5 @@
+mod Sets
+mod Shifts
+pub mod Below
+pub mod Listed
+mod Located
