@@ -1,9 +1,6 @@
 // Everything that a feed holds.
-ghost use Prim.Native.Nat.{_+_, _-_, _^_, min};
 ghost use mathlib.Core.Path.{_≡_};
-ghost use Rattle.tables.specs.Tables.{held, size as places};
-ghost use Rattle.engine.specs.State.{viewOf};
-ghost use Rattle.desk.specs.Holdings.{Answered, nextLine};
+ghost use Rattle.desk.specs.Holdings.{Answered};
 ghost use Rattle.desk.specs.Views.{holdingOf};
 use crate::replies::Reply;
 use directory::PartyBook;
@@ -26,9 +23,37 @@ pub struct Desk<'a, 'b, 'c, 'd, 'e, 'f, R, O, C> {
     lines: u64,
 }
 
-impl<'a, 'b, 'c, 'd, 'e, 'f, R: Register, O: Outbox, C: Calendar> Desk<'a, 'b, 'c, 'd, 'e, 'f, R, O, C> {
-    pub fn new(register: &'a mut R, outbox: &'b mut O, directory: &'c mut PartyBook<'d, 'e>, calendar: &'f C) -> Self {
-        Desk { engine: Engine::new(register), outbox, directory, calendar, lines: 0 }
+impl<'a, 'b, 'c, 'd, 'e, 'f, R: Register, O: Outbox, C: Calendar> Desk<
+    'a,
+    'b,
+    'c,
+    'd,
+    'e,
+    'f,
+    R,
+    O,
+    C,
+> {
+    // A desk over the stores as they are, with its clock at 0, before its first line.
+    pub fn new(
+        register: &'a mut R,
+        outbox: &'b mut O,
+        directory: &'c mut PartyBook<'d, 'e>,
+        calendar: &'f C,
+    ) -> Self
+        ensures engine { λ r. ⌜ (r .engine .register .now ≡ now (register .entry)) × (r .engine .clock ≡ 0) ⌝ }
+        ensures outbox { λ r. ⌜ r .outbox .now ≡ now (outbox .entry) ⌝ }
+        ensures directory { λ r. ⌜ r .directory .now ≡ now (directory .entry) ⌝ }
+        ensures calendar { λ r. ⌜ r .calendar .now ≡ now (calendar .entry) ⌝ }
+        ensures lines { λ r. ⌜ r .lines ≡ 0 ⌝ }
+    {
+        Desk {
+            engine: Engine::new(register),
+            outbox,
+            directory,
+            calendar,
+            lines: 0,
+        }
     }
 
     // Does what the line says, and tells the reply. Any bytes are answered.
@@ -37,12 +62,30 @@ impl<'a, 'b, 'c, 'd, 'e, 'f, R: Register, O: Outbox, C: Calendar> Desk<'a, 'b, '
     {
         self.lines = self.lines.saturating_add(1);
         match accept(bytes) {
-            Err(fault) => Reply::Fault(FaultReport { line: self.lines, fault }),
-            Ok(Command::Party { number, role, qualified, sanctioned }) => {
-                Reply::to_addition(self.directory.add_party(number, role, qualified, sanctioned))
+            Err(fault) => Reply::Fault(FaultReport {
+                line: self.lines,
+                fault,
+            }),
+            Ok(
+                Command::Party {
+                    number,
+                    role,
+                    qualified,
+                    sanctioned,
+                },
+            ) => {
+                Reply::to_addition(
+                    self.directory
+                        .add_party(number, role, qualified, sanctioned),
+                )
             }
-            Ok(Command::Link { supplier, shipper }) => Reply::to_addition(self.directory.add_link(supplier, shipper)),
-            Ok(Command::Call(call)) => Reply::to_call(self.engine.apply(self.calendar, &*self.directory, self.outbox, call)),
+            Ok(Command::Link { supplier, shipper }) => Reply::to_addition(
+                self.directory.add_link(supplier, shipper),
+            ),
+            Ok(Command::Call(call)) => Reply::to_call(
+                self.engine
+                    .apply(self.calendar, &*self.directory, self.outbox, call),
+            ),
         }
     }
 }

@@ -18,11 +18,7 @@ pub enum Reply {
     Notice(Notice),
     // Nothing waits.
     Nothing,
-    Step {
-        point: u64,
-        turn: Turn,
-        moment: u32,
-    },
+    Step { point: u64, turn: Turn, moment: u32 },
     Reached(u32),
     Fault(FaultReport),
 }
@@ -37,11 +33,13 @@ impl Reply {
             Ok(Answer::Done) => Reply::Done,
             Ok(Answer::Taken(Some(notice))) => Reply::Notice(notice),
             Ok(Answer::Taken(None)) => Reply::Nothing,
-            Ok(Answer::Stepped {
-                point,
-                turn,
-                moment,
-            }) => Reply::Step {
+            Ok(
+                Answer::Stepped {
+                    point,
+                    turn,
+                    moment,
+                },
+            ) => Reply::Step {
                 point,
                 turn,
                 moment,

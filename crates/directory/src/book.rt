@@ -10,11 +10,9 @@ ghost use Rattle.tables.specs.Orders.{pairLess};
 ghost use Rattle.tables.specs.Tables.{held, size};
 ghost use Rattle.directory.specs.Additions.{partyAnswer, linkAnswer, PartyAdded, LinkAdded};
 ghost use Rattle.directory.specs.Entries.{partyKey, linkKey, qualifiedIn, sanctionedIn, linkedIn};
-use crate::entries::ByPartyAndRole;
-use crate::entries::BySupplierAndShipper;
+use crate::entries::LinkByPair;
 use crate::entries::LinkEntry;
-use crate::entries::LinksByPair;
-use crate::entries::PartiesByRole;
+use crate::entries::PartyByRole;
 use crate::entries::PartyEntry;
 use crate::limits::link_entry;
 use crate::limits::party_entry;
@@ -25,8 +23,8 @@ use tables::OrderedTable;
 
 #[derive(Drop)]
 pub struct PartyBook<'a, 'b> {
-    parties: OrderedTable<'a, ByPartyAndRole>,
-    links: OrderedTable<'b, BySupplierAndShipper>,
+    parties: OrderedTable<'a, PartyEntry>,
+    links: OrderedTable<'b, LinkEntry>,
     ghost parties_order: { inOrder partyKey pairLess (held parties) ≡ true },
     ghost links_order: { inOrder linkKey pairLess (held links) ≡ true },
 }

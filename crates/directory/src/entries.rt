@@ -2,7 +2,7 @@
 ghost use Rattle.tables.specs.Orders.{pairLess};
 ghost use Rattle.directory.specs.Entries.{partyKey, linkKey};
 use market::Role;
-use tables::KeyOrder;
+use tables::Keyed;
 
 // A party in one of its roles.
 #[derive(Clone, Copy)]
@@ -21,20 +21,15 @@ pub struct LinkEntry {
 }
 
 // Parties by their numbers, and one party's entries by their roles.
-#[derive(Drop)]
-pub struct ByPartyAndRole;
-
-pub impl KeyOrder for ByPartyAndRole as PartiesByRole {
-    type Record = PartyEntry;
-
+pub impl Keyed for PartyEntry as PartyByRole {
     type Key = (u16, u8);
 
     ghost own = { partyKey };
 
     ghost less = { pairLess };
 
-    fn key(x: &PartyEntry) -> (u16, u8) {
-        (x.number, x.role.number())
+    fn key(&self) -> (u16, u8) {
+        (self.number, self.role.number())
     }
 
     fn below(a: &(u16, u8), b: &(u16, u8)) -> bool {
@@ -43,20 +38,15 @@ pub impl KeyOrder for ByPartyAndRole as PartiesByRole {
 }
 
 // Links by their suppliers, and one supplier's links by their shippers.
-#[derive(Drop)]
-pub struct BySupplierAndShipper;
-
-pub impl KeyOrder for BySupplierAndShipper as LinksByPair {
-    type Record = LinkEntry;
-
+pub impl Keyed for LinkEntry as LinkByPair {
     type Key = (u16, u16);
 
     ghost own = { linkKey };
 
     ghost less = { pairLess };
 
-    fn key(x: &LinkEntry) -> (u16, u16) {
-        (x.supplier, x.shipper)
+    fn key(&self) -> (u16, u16) {
+        (self.supplier, self.shipper)
     }
 
     fn below(a: &(u16, u16), b: &(u16, u16)) -> bool {

@@ -6,12 +6,7 @@ mod limits;
 
 pub use book::PartyBook;
 pub use book::PartyBookDirectory;
-pub use entries::ByPartyAndRole;
-pub use entries::BySupplierAndShipper;
+pub use entries::LinkByPair;
 pub use entries::LinkEntry;
-pub use entries::LinksByPair;
-pub use entries::PartiesByRole;
+pub use entries::PartyByRole;
 pub use entries::PartyEntry;
-
-#[cfg(test)]
-mod tests;

@@ -1,15 +1,9 @@
 // What can be asked of the engine, and what it answers.
 use market::Notice;
-use market::notices::NoticeDebug;
-use market::notices::NoticeEq;
-use market::notices::NoticePartialEq;
 use rules::Turn;
-use rules::steps::TurnDebug;
-use rules::steps::TurnEq;
-use rules::steps::TurnPartialEq;
 
 // A call with its numbers as received, whatever they are.
-#[derive(Clone, Copy, Debug, PartialEq, Eq)]
+#[derive(Clone, Copy, PartialEq, Eq)]
 pub enum Call {
     // A new point.
     Create {
@@ -33,7 +27,7 @@ pub enum Call {
     Take,
 }
 
-#[derive(Clone, Copy, Debug, PartialEq, Eq)]
+#[derive(Clone, Copy)]
 pub enum Answer {
     // Accepted, and there is no more to say.
     Done,

@@ -1,9 +1,8 @@
 // What a line can ask, with its numbers as received, whatever they are.
 use engine::Call;
-use engine::calls::CallDebug;
 use engine::calls::CallPartialEq;
 
-#[derive(Clone, Copy, Debug, PartialEq, Eq)]
+#[derive(Clone, Copy, PartialEq, Eq)]
 pub enum Command {
     // What the directory knows of a party in a role.
     Party {

@@ -9,12 +9,12 @@ ghost use Rattle.lines.specs.Faults.{faultNumber, faultField};
 use std::fmt;
 
 // The field is no number of 1 to 13 digits. `place` counts a line's fields from 1.
-#[derive(Clone, Copy, Debug, PartialEq, Eq)]
+#[derive(Clone, Copy, PartialEq, Eq)]
 pub struct FieldFault {
     pub place: usize,
 }
 
-#[derive(Clone, Copy, Debug, PartialEq, Eq)]
+#[derive(Clone, Copy, PartialEq, Eq)]
 pub enum LineFault {
     TooLong,
     UnknownWord,
@@ -22,7 +22,7 @@ pub enum LineFault {
     Field(FieldFault),
 }
 
-#[derive(Clone, Copy, Debug, PartialEq, Eq)]
+#[derive(Clone, Copy)]
 pub struct FeedFault {
     pub fault: LineFault,
 }
@@ -68,7 +68,7 @@ impl LineFault {
 }
 
 // A fault with the number of its line, from 1.
-#[derive(Clone, Copy, Debug, PartialEq, Eq)]
+#[derive(Clone, Copy)]
 pub struct FaultReport {
     pub line: u64,
     pub fault: FeedFault,

@@ -18,6 +18,3 @@ pub use faults::LineFault;
 pub use faults::LineFromField;
 pub use readers::Reader;
 pub use readers::Word;
-
-#[cfg(test)]
-mod tests;

@@ -9,7 +9,7 @@ ghost use Rattle.std.specs.Options.{Cases as BySome};
 ghost use Rattle.lines.specs.Words.{words, left};
 
 // A word, as the part of its line that starts at `place`.
-#[derive(Clone, Copy, Debug)]
+#[derive(Clone, Copy)]
 pub struct Word<'a> {
     pub place: usize,
     pub text: &'a [u8],

@@ -4,7 +4,7 @@ ghost use Rattle.std.specs.Options.{Cases as BySome};
 ghost use Rattle.lines.specs.declared.verbs.Verb.{Verb as Word};
 ghost use Rattle.lines.specs.Verbs.{nameOf};
 
-#[derive(Clone, Copy, Debug, PartialEq, Eq)]
+#[derive(Clone, Copy)]
 pub(crate) enum Verb {
     Party,
     Link,

@@ -16,7 +16,8 @@ use Rattle.market.specs.declared.points.Point.{Point}
 use Rattle.tables.proofs.Below.{numbers-ordered, numbers-alike}
 use Rattle.tables.proofs.Listed.{find-join, find-swap, find-named, length-join, length-swap}
 use Rattle.tables.specs.Keys.{seek, join, swap, belowAll}
-use Rattle.registers.specs.Points.{numberOf, InOrder, pointIn, placeIn}
+use Rattle.tables.specs.Points.{numberOf}
+use Rattle.registers.specs.Points.{InOrder, pointIn, placeIn}
 
 not-some : {X : Type 0} (o : Option X) → isSome o ≡ false → o ≡ None
 not-some None h = refl

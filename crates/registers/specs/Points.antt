@@ -9,9 +9,7 @@ use Rattle.std.specs.Options.{isSome}
 use Rattle.std.specs.declared.option.Option.{Option}
 use Rattle.market.specs.declared.points.Point.{Point}
 use Rattle.tables.specs.Keys.{find, inOrder}
-
-abbrev pub numberOf : Point → ℕ
-numberOf p = p .number
+use Rattle.tables.specs.Points.{numberOf}
 
 -- the numbers rise
 abbrev pub InOrder : List Point → Type 0

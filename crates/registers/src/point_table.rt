@@ -5,37 +5,15 @@ ghost use lib.Dec.{ltb};
 ghost use lib.ListN.{length};
 ghost use Rattle.std.specs.declared.option.Option.the-variants.{None};
 ghost use Rattle.tables.specs.Tables.{held, size};
-ghost use Rattle.registers.specs.Points.{numberOf, InOrder, pointIn, placeIn};
+ghost use Rattle.registers.specs.Points.{InOrder, pointIn, placeIn};
 use market::Point;
 use market::Register;
-use tables::KeyOrder;
 use tables::OrderedTable;
-
-// The order of points by their numbers.
-#[derive(Drop)]
-pub struct ByNumber;
-
-pub impl KeyOrder for ByNumber as PointsByNumber {
-    type Record = Point;
-
-    type Key = u64;
-
-    ghost own = { numberOf };
-
-    ghost less = { ltb };
-
-    fn key(x: &Point) -> u64 {
-        x.number
-    }
-
-    fn below(a: &u64, b: &u64) -> bool {
-        *a < *b
-    }
-}
+use tables::PointByNumber;
 
 #[derive(Drop)]
 pub struct PointTable<'a> {
-    table: OrderedTable<'a, ByNumber>,
+    table: OrderedTable<'a, Point>,
     ghost order: { InOrder (held table) },
 }
 

@@ -52,7 +52,7 @@ pub fn new_point(number: u64, fuel: u64, domestic: u64, status: u64) -> Result<P
 }
 
 // What a request asks for: a point, the gainer and its shipper, and the day to start.
-#[derive(Clone, Copy, Debug, PartialEq, Eq)]
+#[derive(Clone, Copy)]
 pub struct Asked {
     pub point: u64,
     pub gainer: u16,

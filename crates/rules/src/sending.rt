@@ -14,7 +14,7 @@ use market::Request;
 use market::Role;
 
 // Who hears of a change.
-#[derive(Clone, Copy, Debug, PartialEq, Eq)]
+#[derive(Clone, Copy)]
 pub enum Audience {
     Validation,
     Confirmation,

@@ -13,7 +13,7 @@ use market::Request;
 use market::RequestState;
 
 // What a step makes of a point's request or registration.
-#[derive(Clone, Copy, Debug, PartialEq, Eq)]
+#[derive(Clone, Copy)]
 pub enum Turn {
     Confirmed,
     Secured,

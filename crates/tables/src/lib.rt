@@ -14,37 +14,40 @@ ghost use Rattle.tables.specs.Orders.{Ordered};
 ghost use Rattle.tables.specs.Keys.{find, seek, join, swap, inOrder, Placed, Found, Missing};
 ghost use Rattle.tables.specs.Tables.{held, size, Sound, placed};
 
-// Records of some type, in a total order of a key that each has.
-pub trait KeyOrder {
-    type Record: Copy;
+mod points;
 
+pub use points::PointByNumber;
+
+// A record with a key; its keys have a total order.
+pub trait Keyed {
     type Key: Copy;
 
-    ghost own: { Self·Record → Self·Key };
+    // The record's own key.
+    ghost own: { Self → Self·Key };
 
     ghost less: { Self·Key → Self·Key → Bool };
 
     law order: { Ordered less };
 
-    fn key(x: &Self::Record) -> Self::Key
-        ensures { λ r. ⌜ r ≡ own (now (x .entry)) ⌝ };
+    fn key(&self) -> Self::Key
+        ensures { λ r. ⌜ r ≡ own (now (self .entry)) ⌝ };
 
     fn below(a: &Self::Key, b: &Self::Key) -> bool
         ensures { λ r. ⌜ r ≡ less (now (a .entry)) (now (b .entry)) ⌝ };
 }
 
-// The records stand first in the slice, in the order O of their keys. A struct cannot carry a fact
+// The records stand first in the slice, in the order of their keys. A struct cannot carry a fact
 // of an order that is a parameter, so each promise that rests on it says so; a struct over a
 // table of a certain order can carry it.
 #[derive(Drop)]
-pub struct OrderedTable<'a, O: KeyOrder> {
-    items: &'a mut [O::Record],
+pub struct OrderedTable<'a, T: Keyed + Copy> {
+    items: &'a mut [T],
     count: usize,
 }
 
-impl<'a, O: KeyOrder> OrderedTable<'a, O> {
+impl<'a, T: Keyed + Copy> OrderedTable<'a, T> {
     // An empty table over all of the slice.
-    pub fn new(items: &'a mut [O::Record]) -> Self
+    pub fn new(items: &'a mut [T]) -> Self
         ensures held { λ r. ⌜ held r ≡ [] ⌝ }
         ensures size { λ r. ⌜ size r ≡ length (now (items .entry)) ⌝ }
         ensures sound { λ r. ⌜ Sound own less r ⌝ }
@@ -52,7 +55,7 @@ impl<'a, O: KeyOrder> OrderedTable<'a, O> {
         OrderedTable { items, count: 0 }
     }
 
-    fn records(&self) -> &[O::Record]
+    fn records(&self) -> &[T]
         ensures { λ r. ⌜ now r ≡ held (now (self .entry)) ⌝ }
     {
         let items = &*self.items;
@@ -64,16 +67,16 @@ impl<'a, O: KeyOrder> OrderedTable<'a, O> {
     }
 
     // Where the key stands, or else where it would.
-    fn locate(&self, key: O::Key) -> Result<usize, usize>
+    fn locate(&self, key: T::Key) -> Result<usize, usize>
         ensures within { λ r. ⌜ Cases r (λ i. i < length (held (now (self .entry)))) (λ i. i ≤ length (held (now (self .entry)))) ⌝ }
         ensures inside { λ r. ⌜ Cases r (λ i. i < size (now (self .entry))) (λ i. i ≤ now (self .entry) .count) ⌝ }
         ensures sound { λ r. ⌜ (Sound own less (now (self .entry)) → Cases r (Found own less (held (now (self .entry))) key) (Missing own less (held (now (self .entry))) key)) ⌝ }
     {
         let records = self.records();
-        let at = place_of::<O>(records, key);
+        let at = place_of(records, key);
         if at < records.len() {
-            let other = O::key(&records[at]);
-            if !O::below(&key, &other) {
+            let other = records[at].key();
+            if !T::below(&key, &other) {
                 return Ok(at);
             }
         }
@@ -81,7 +84,7 @@ impl<'a, O: KeyOrder> OrderedTable<'a, O> {
     }
 
     // The record with the key.
-    pub fn read(&self, key: O::Key) -> Option<O::Record>
+    pub fn read(&self, key: T::Key) -> Option<T>
         ensures { λ r. ⌜ (Sound own less (now (self .entry)) → r ≡ find own less key (held (now (self .entry)))) ⌝ }
     {
         let records = self.records();
@@ -92,11 +95,11 @@ impl<'a, O: KeyOrder> OrderedTable<'a, O> {
     }
 
     // The first record whose key is this one or above.
-    pub fn first_from(&self, key: O::Key) -> Option<O::Record>
+    pub fn first_from(&self, key: T::Key) -> Option<T>
         ensures { λ r. ⌜ (Sound own less (now (self .entry)) → r ≡ seek own less key (held (now (self .entry)))) ⌝ }
     {
         let records = self.records();
-        let at = place_of::<O>(records, key);
+        let at = place_of(records, key);
         if at < records.len() {
             return Some(records[at]);
         }
@@ -104,20 +107,20 @@ impl<'a, O: KeyOrder> OrderedTable<'a, O> {
     }
 
     // Whether the key is absent and there is room for one more record.
-    pub fn has_place(&self, key: O::Key) -> bool
+    pub fn has_place(&self, key: T::Key) -> bool
         ensures { λ r. ⌜ (Sound own less (now (self .entry)) → r ≡ placed own less (now (self .entry)) key) ⌝ }
     {
         self.read(key).is_none() && self.records().len() < self.items.len()
     }
 
     // Joins the record where its key has a place.
-    pub fn add(&mut self, x: O::Record) -> bool
+    pub fn add(&mut self, x: T) -> bool
         ensures value { λ r. ⌜ (Sound own less (now (self .entry)) → r ≡ placed own less (now (self .entry)) (own x)) ⌝ }
         ensures after { λ r. ⌜ (Sound own less (now (self .entry)) → held (now (self .exit)) ≡ cond r (join own less x (held (now (self .entry)))) (held (now (self .entry)))) ⌝ }
         ensures size { λ _. ⌜ size (now (self .exit)) ≡ size (now (self .entry)) ⌝ }
         ensures sound { λ _. ⌜ (Sound own less (now (self .entry)) → Sound own less (now (self .exit))) ⌝ }
     {
-        match self.locate(O::key(&x)) {
+        match self.locate(x.key()) {
             Ok(_) => false,
             Err(at) => {
                 let count = self.count;
@@ -133,13 +136,13 @@ impl<'a, O: KeyOrder> OrderedTable<'a, O> {
     }
 
     // Puts the record in the place of the one with its key.
-    pub fn replace(&mut self, x: O::Record) -> bool
+    pub fn replace(&mut self, x: T) -> bool
         ensures value { λ r. ⌜ (Sound own less (now (self .entry)) → r ≡ isSome (find own less (own x) (held (now (self .entry))))) ⌝ }
         ensures after { λ r. ⌜ (Sound own less (now (self .entry)) → held (now (self .exit)) ≡ swap own less x (held (now (self .entry)))) ⌝ }
         ensures size { λ _. ⌜ size (now (self .exit)) ≡ size (now (self .entry)) ⌝ }
         ensures sound { λ _. ⌜ (Sound own less (now (self .entry)) → Sound own less (now (self .exit))) ⌝ }
     {
-        match self.locate(O::key(&x)) {
+        match self.locate(x.key()) {
             Ok(at) => {
                 self.items[at] = x;
                 true
@@ -150,7 +153,7 @@ impl<'a, O: KeyOrder> OrderedTable<'a, O> {
 }
 
 // The first place whose record has the key or one above it.
-fn place_of<O: KeyOrder>(records: &[O::Record], key: O::Key) -> usize
+fn place_of<T: Keyed + Copy>(records: &[T], key: T::Key) -> usize
     ensures within { λ r. ⌜ r ≤ length (now (records .entry)) ⌝ }
     ensures sound { λ r. ⌜ (inOrder own less (now (records .entry)) ≡ true → Placed own less (now (records .entry)) key r) ⌝ }
 {
@@ -158,8 +161,8 @@ fn place_of<O: KeyOrder>(records: &[O::Record], key: O::Key) -> usize
     let mut high = records.len();
     while low < high {
         let mid = low + (high - low) / 2;
-        let found = O::key(&records[mid]);
-        if O::below(&found, &key) {
+        let found = records[mid].key();
+        if T::below(&found, &key) {
             low = mid + 1;
         } else {
             high = mid;

@@ -8,11 +8,11 @@ use Rattle.tables.proofs.OrderedTable.add.Needs as need
 
 pub returns-in-Ok : need.returns-in-Ok
 returns-in-Ok g c =
-    let m = g .O·KeyOrder in
+    let m = g .T·Keyed in
     let t = c .args .self .now in
     let got = c .in-Ok .ensures tt in
     record {
-      value = λ s. taken (m .own) (m .less) (t .count) (t .items .now) _ _ (c .key .ensures) (some-found (m .own) (m .less) (g .O·KeyOrder·met .order) (held t) _ _ (got .within) (got .sound s) (c .args .x));
+      value = λ s. taken (m .own) (m .less) (t .count) (t .items .now) _ _ (c .key .ensures) (some-found (m .own) (m .less) (g .T·Keyed·met .order) (held t) _ _ (got .within) (got .sound s) (c .args .x));
       after = λ s. refl;
       size = refl;
       sound = λ s. s;
@@ -20,8 +20,8 @@ returns-in-Ok g c =
 
 pub returns-then-count-self : need.returns-then-count-self
 returns-then-count-self g c =
-    let m = g .O·KeyOrder in
-    let o = g .O·KeyOrder·met .order in
+    let m = g .T·Keyed in
+    let o = g .T·Keyed·met .order in
     let t = c .args .self .now in
     let got = c .in-Err .ensures tt in
     let key = c .key .ensures in
@@ -34,7 +34,7 @@ returns-then-count-self g c =
 
 pub returns-else-count-self : need.returns-else-count-self
 returns-else-count-self g c =
-    let m = g .O·KeyOrder in
+    let m = g .T·Keyed in
     let t = c .args .self .now in
     record {
       value = λ s. used-up (m .own) (m .less) (t .count) (t .items .now) _ _ (c .key .ensures) (c .if-count-self .left);

@@ -8,7 +8,7 @@ use Rattle.tables.proofs.OrderedTable.locate.Needs as need
 
 pub returns-then-not-below : need.returns-then-not-below
 returns-then-not-below g c =
-    let m = g .O·KeyOrder in
+    let m = g .T·Keyed in
     let e = c .records-records .ensures in
     let x = c .index-records-at .result in
     let above : m .less (c .args .key) (m .own x) ≡ false = ap (m .less (c .args .key)) (sym (c .key-other .ensures)) ∙ sym (c .if-not-below .ensures tt) in
@@ -18,12 +18,12 @@ returns-then-not-below g c =
       sound = λ s.
           let up = subst (λ xs. inOrder (m .own) (m .less) xs ≡ true) (sym e) s in
           subst (λ xs. Found (m .own) (m .less) xs (c .args .key) (c .place-of-at .result)) e
-          (found (m .own) (m .less) (g .O·KeyOrder·met .order) (c .records-records .result .now) _ _ (c .place-of-at .ensures .sound up) x (omega arith) (c .index-records-at .is) above);
+          (found (m .own) (m .less) (g .T·Keyed·met .order) (c .records-records .result .now) _ _ (c .place-of-at .ensures .sound up) x (omega arith) (c .index-records-at .is) above);
     }
 
 pub returns-else-not-below : need.returns-else-not-below
 returns-else-not-below g c =
-    let m = g .O·KeyOrder in
+    let m = g .T·Keyed in
     let e = c .records-records .ensures in
     let x = c .index-records-at .result in
     let below : m .less (c .args .key) (m .own x) ≡ true = ap (m .less (c .args .key)) (sym (c .key-other .ensures)) ∙ sym (c .if-not-below .ensures tt) in
@@ -33,12 +33,12 @@ returns-else-not-below g c =
       sound = λ s.
           let up = subst (λ xs. inOrder (m .own) (m .less) xs ≡ true) (sym e) s in
           subst (λ xs. Missing (m .own) (m .less) xs (c .args .key) (c .place-of-at .result)) e
-          (missing (m .own) (m .less) (g .O·KeyOrder·met .order) (c .records-records .result .now) _ _ (c .place-of-at .ensures .sound up) up x (omega arith) (c .index-records-at .is) below);
+          (missing (m .own) (m .less) (g .T·Keyed·met .order) (c .records-records .result .now) _ _ (c .place-of-at .ensures .sound up) up x (omega arith) (c .index-records-at .is) below);
     }
 
 pub returns-else-at-records : need.returns-else-at-records
 returns-else-at-records g c =
-    let m = g .O·KeyOrder in
+    let m = g .T·Keyed in
     let e = c .records-records .ensures in
     record {
       within = omega (arith, ap length e);
@@ -46,5 +46,5 @@ returns-else-at-records g c =
       sound = λ s.
           let up = subst (λ xs. inOrder (m .own) (m .less) xs ≡ true) (sym e) s in
           subst (λ xs. Missing (m .own) (m .less) xs (c .args .key) (c .place-of-at .result)) e
-          (missing-past (m .own) (m .less) (g .O·KeyOrder·met .order) (c .records-records .result .now) _ _ (c .place-of-at .ensures .sound up) (omega arith));
+          (missing-past (m .own) (m .less) (g .T·Keyed·met .order) (c .records-records .result .now) _ _ (c .place-of-at .ensures .sound up) (omega arith));
     }

@@ -6,14 +6,14 @@ use Rattle.tables.proofs.OrderedTable.read.Needs as need
 
 pub returns-in-Ok : need.returns-in-Ok
 returns-in-Ok g c = λ s.
-    let m = g .O·KeyOrder in
+    let m = g .T·Keyed in
     let x = c .index-records-at .result in
     let got = c .in-Ok .ensures tt in
-    sym (find-found (m .own) (m .less) (g .O·KeyOrder·met .order) (held (c .args .self .now)) _ _ (got .within) (got .sound s) x
+    sym (find-found (m .own) (m .less) (g .T·Keyed·met .order) (held (c .args .self .now)) _ _ (got .within) (got .sound s) x
     (c .index-records-at .is ∙ ap (λ xs. getD xs (c .in-Ok .at) x) (c .records-records .ensures)))
 
 pub returns-in-Err : need.returns-in-Err
 returns-in-Err g c = λ s.
-    let m = g .O·KeyOrder in
+    let m = g .T·Keyed in
     let got = c .in-Err .ensures tt in
-    sym (find-missing (m .own) (m .less) (g .O·KeyOrder·met .order) (held (c .args .self .now)) _ _ (got .within) (got .sound s))
+    sym (find-missing (m .own) (m .less) (g .T·Keyed·met .order) (held (c .args .self .now)) _ _ (got .within) (got .sound s))

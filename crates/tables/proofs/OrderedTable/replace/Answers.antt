@@ -11,8 +11,8 @@ use Rattle.tables.proofs.OrderedTable.replace.Needs as need
 
 pub returns-in-Ok : need.returns-in-Ok
 returns-in-Ok g c =
-    let m = g .O·KeyOrder in
-    let o = g .O·KeyOrder·met .order in
+    let m = g .T·Keyed in
+    let o = g .T·Keyed·met .order in
     let t = c .args .self .now in
     let x = c .args .x in
     let got = c .in-Ok .ensures tt in
@@ -26,8 +26,8 @@ returns-in-Ok g c =
 
 pub returns-in-Err : need.returns-in-Err
 returns-in-Err g c =
-    let m = g .O·KeyOrder in
-    let o = g .O·KeyOrder·met .order in
+    let m = g .T·Keyed in
+    let o = g .T·Keyed·met .order in
     let t = c .args .self .now in
     let got = c .in-Err .ensures tt in
     let none = λ (s : Sound (m .own) (m .less) t). ap (λ k. find (m .own) (m .less) k (held t)) (sym (c .key .ensures)) ∙ find-missing (m .own) (m .less) o (held t) _ _ (got .within) (got .sound s) in

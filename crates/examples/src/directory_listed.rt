@@ -1,7 +1,8 @@
-use crate::LinkEntry;
-use crate::PartyBook;
-use crate::PartyBookDirectory;
-use crate::PartyEntry;
+// Parties in a directory of one or two places.
+use directory::LinkEntry;
+use directory::PartyBook;
+use directory::PartyBookDirectory;
+use directory::PartyEntry;
 use market::Directory;
 use market::Refusal;
 use market::Role;

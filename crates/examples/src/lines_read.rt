@@ -1,14 +1,14 @@
 // Lines and what they give.
-use crate::commands::Command;
-use crate::commands::CommandPartialEq;
-use crate::decoding::accept;
-use crate::decoding::decode;
-use crate::faults::FaultReport;
-use crate::faults::FaultReportDisplay;
-use crate::faults::FieldFault;
-use crate::faults::LineFault;
-use crate::faults::LineFaultPartialEq;
 use engine::Call;
+use lines::FaultReport;
+use lines::FaultReportDisplay;
+use lines::FieldFault;
+use lines::LineFault;
+use lines::accept;
+use lines::commands::Command;
+use lines::commands::CommandPartialEq;
+use lines::decode;
+use lines::faults::LineFaultPartialEq;
 use std::test::*;
 
 #[test]
