@@ -1,5 +1,6 @@
 -- What a line does to everything that a feed holds.
 use Prim.Native.Nat.{ℕ, _+_, _-_, _^_, min}
+use mathlib.Core.Bool.{false}
 use mathlib.Core.List.{List}
 use mathlib.Core.Path.{_≡_}
 use Rattle.std.specs.Results.{isOk}
@@ -52,6 +53,7 @@ nextLine n = min (n + 1) (2 ^ 64 - 1)
 pub record PartyListed (p r q s : ℕ) (h k : Holding) (a : Reply) : Type 0 where
   pub reply : a ≡ addedReply (partyAnswer (h .listing .parties) (h .listing .partyPlaces) p r q s)
   pub parties : PartyAdded p r q s (h .listing .parties) (isOk (partyAnswer (h .listing .parties) (h .listing .partyPlaces) p r q s)) (k .listing .parties)
+  pub refused : isOk (partyAnswer (h .listing .parties) (h .listing .partyPlaces) p r q s) ≡ false → k .listing .parties ≡ h .listing .parties
   pub links : k .listing .links ≡ h .listing .links
   pub partyPlaces : k .listing .partyPlaces ≡ h .listing .partyPlaces
   pub linkPlaces : k .listing .linkPlaces ≡ h .listing .linkPlaces
@@ -60,6 +62,7 @@ pub record PartyListed (p r q s : ℕ) (h k : Holding) (a : Reply) : Type 0 wher
 pub record LinkListed (p q : ℕ) (h k : Holding) (a : Reply) : Type 0 where
   pub reply : a ≡ addedReply (linkAnswer (h .listing .links) (h .listing .linkPlaces) p q)
   pub links : LinkAdded p q (h .listing .links) (isOk (linkAnswer (h .listing .links) (h .listing .linkPlaces) p q)) (k .listing .links)
+  pub refused : isOk (linkAnswer (h .listing .links) (h .listing .linkPlaces) p q) ≡ false → k .listing .links ≡ h .listing .links
   pub parties : k .listing .parties ≡ h .listing .parties
   pub partyPlaces : k .listing .partyPlaces ≡ h .listing .partyPlaces
   pub linkPlaces : k .listing .linkPlaces ≡ h .listing .linkPlaces

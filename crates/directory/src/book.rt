@@ -1,5 +1,5 @@
 // The directory over two slices that the caller lends: one for parties in roles, one for links.
-ghost use mathlib.Core.Bool.{true};
+ghost use mathlib.Core.Bool.{true, false};
 ghost use mathlib.Core.List.{[]};
 ghost use mathlib.Core.Path.{_≡_};
 ghost use lib.ListN.{length};
@@ -50,6 +50,7 @@ impl<'a, 'b> PartyBook<'a, 'b> {
     ) -> Result<(), Refusal>
         ensures value { λ r. ⌜ r ≡ partyAnswer (held (now (self .entry) .parties)) (size (now (self .entry) .parties)) number role qualified sanctioned ⌝ }
         ensures after { λ r. ⌜ PartyAdded number role qualified sanctioned (held (now (self .entry) .parties)) (isOk r) (held (now (self .exit) .parties)) ⌝ }
+        ensures refused { λ r. ⌜ (isOk r ≡ false → held (now (self .exit) .parties) ≡ held (now (self .entry) .parties)) ⌝ }
         ensures same { λ _. ⌜ held (now (self .exit) .links) ≡ held (now (self .entry) .links) ⌝ }
         ensures sizes { λ _. ⌜ (size (now (self .exit) .parties) ≡ size (now (self .entry) .parties)) × (size (now (self .exit) .links) ≡ size (now (self .entry) .links)) ⌝ }
     {
@@ -72,6 +73,7 @@ impl<'a, 'b> PartyBook<'a, 'b> {
     pub fn add_link(&mut self, supplier: u64, shipper: u64) -> Result<(), Refusal>
         ensures value { λ r. ⌜ r ≡ linkAnswer (held (now (self .entry) .links)) (size (now (self .entry) .links)) supplier shipper ⌝ }
         ensures after { λ r. ⌜ LinkAdded supplier shipper (held (now (self .entry) .links)) (isOk r) (held (now (self .exit) .links)) ⌝ }
+        ensures refused { λ r. ⌜ (isOk r ≡ false → held (now (self .exit) .links) ≡ held (now (self .entry) .links)) ⌝ }
         ensures same { λ _. ⌜ held (now (self .exit) .parties) ≡ held (now (self .entry) .parties) ⌝ }
         ensures sizes { λ _. ⌜ (size (now (self .exit) .parties) ≡ size (now (self .entry) .parties)) × (size (now (self .exit) .links) ≡ size (now (self .entry) .links)) ⌝ }
     {

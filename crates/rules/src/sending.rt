@@ -4,6 +4,7 @@ ghost use mathlib.Core.List.{[]};
 ghost use mathlib.Core.Path.{_≡_};
 ghost use lib.ListN.{length, take};
 ghost use Rattle.rules.specs.Notices.{reaches, needsSupplier, partyIn, noticeTo, mailed};
+ghost use Rattle.rules.specs.Lists.{ListsStand};
 ghost use Rattle.rules.specs.Owing.{listed};
 use crate::owed::Owed;
 use market::Fuel;
@@ -132,3 +133,10 @@ const ROLES: [Role; 13] = [
     Role::Ecoes,
     Role::ElectricityAgent,
 ];
+
+// That the lists are, role by role, the ones that the market agreed on. It only carries its promise.
+pub fn lists_stand() -> bool
+    ensures { λ r. ⌜ ListsStand ⌝ }
+{
+    true
+}

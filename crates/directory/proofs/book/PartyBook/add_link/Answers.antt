@@ -10,6 +10,7 @@ returns-then-add c =
     record {
       value = search needs;
       after = link-added (c .args .supplier) (c .args .shipper) (c .in-Some .link) (held (t .links)) (held (c .add .last .self)) _ (c .in-Some .ensures tt) (got .value (t .«links_order»)) (got .after (t .«links_order»));
+      refused = search needs;
       same = search needs;
       sizes = search needs;
     }

@@ -10,6 +10,7 @@ returns-then-add c =
     record {
       value = search needs;
       after = party-added (c .args .number) (c .args .role) (c .args .qualified) (c .args .sanctioned) (c .in-Some .entry) (held (t .parties)) (held (c .add .last .self)) _ (c .in-Some .ensures tt) (got .value (t .«parties_order»)) (got .after (t .«parties_order»));
+      refused = search needs;
       same = search needs;
       sizes = search needs;
     }
