@@ -9,10 +9,7 @@ use desk::ReplyDisplay;
 use directory::LinkEntry;
 use directory::PartyBook;
 use directory::PartyEntry;
-use market::Fuel;
 use market::Point;
-use market::Role;
-use market::Status;
 use outboxes::ByteRing;
 use outboxes::ByteRingOutbox;
 use registers::PointTable;
@@ -21,40 +18,11 @@ use std::io;
 use std::io::BufRead;
 use std::io::BufReader;
 
-// What stands in places that nothing has taken yet.
-const NO_POINT: Point = Point {
-    number: 0,
-    fuel: Fuel::Gas,
-    domestic: false,
-    status: Status::Created,
-    supplier: None,
-    shipper: None,
-    since: None,
-    mem: None,
-    dc: None,
-    da: None,
-    map: None,
-    leaving: None,
-    request: None,
-};
-
-const NO_PARTY: PartyEntry = PartyEntry {
-    number: 0,
-    role: Role::Gainer,
-    qualified: false,
-    sanctioned: false,
-};
-
-const NO_LINK: LinkEntry = LinkEntry {
-    supplier: 0,
-    shipper: 0,
-};
-
 // Answers every line of standard input with one line of standard output.
 pub fn serve(rt: &LibcRuntime) -> io::Result<()> {
-    let mut points = [NO_POINT; 64];
-    let mut parties = [NO_PARTY; 64];
-    let mut links = [NO_LINK; 64];
+    let mut points = [Point::BLANK; 64];
+    let mut parties = [PartyEntry::BLANK; 64];
+    let mut links = [LinkEntry::BLANK; 64];
     let mut bytes = [0u8; 256];
     let mut register = PointTable::new(&mut points);
     let mut outbox = ByteRing::new(&mut bytes);

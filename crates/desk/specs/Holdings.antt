@@ -19,7 +19,7 @@ use Rattle.directory.specs.Additions.{partyAnswer, linkAnswer, PartyAdded, Link
 use Rattle.directory.specs.Entries.{qualifiedIn, sanctionedIn, linkedIn}
 use Rattle.lines.specs.declared.commands.Command.{Command}
 use Rattle.lines.specs.declared.commands.Command.the-variants as command
-use Rattle.lines.specs.declared.faults.FeedFault.{FeedFault}
+use Rattle.words.specs.declared.faults.FeedFault.{FeedFault}
 use Rattle.lines.specs.Decoding.{accepted}
 use Rattle.desk.specs.declared.replies.Reply.{Reply}
 use Rattle.desk.specs.declared.replies.Reply.the-variants.{Fault}

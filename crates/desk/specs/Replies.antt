@@ -14,7 +14,7 @@ use Rattle.rules.specs.declared.steps.Turn.{Turn}
 use Rattle.rules.specs.declared.steps.Turn.the-variants.{Confirmed, Secured, Completed, Left}
 use Rattle.engine.specs.declared.calls.Answer.{Answer}
 use Rattle.engine.specs.declared.calls.Answer.the-variants as answer
-use Rattle.lines.specs.Faults.{faultNumber, faultField}
+use Rattle.words.specs.Faults.{faultNumber, faultField}
 use Rattle.desk.specs.declared.replies.Reply.{Reply}
 use Rattle.desk.specs.declared.replies.Reply.the-variants as reply
 

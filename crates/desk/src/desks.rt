@@ -7,11 +7,11 @@ use directory::PartyBook;
 use directory::PartyBookDirectory;
 use engine::Engine;
 use lines::Command;
-use lines::FaultReport;
 use lines::accept;
 use market::Calendar;
 use market::Outbox;
 use market::Register;
+use words::FaultReport;
 
 // A register with its engine, an outbox, a directory and a calendar, and how many lines came.
 #[derive(Drop)]

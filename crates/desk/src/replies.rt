@@ -3,12 +3,12 @@ ghost use mathlib.Core.Path.{_≡_};
 ghost use Rattle.std.specs.declared.option.Option.the-variants.{Some};
 ghost use Rattle.desk.specs.Replies.{textOf, turnName, replyTo, addedReply};
 use engine::Answer;
-use lines::FaultReport;
-use lines::FaultReportDisplay;
 use market::Notice;
 use market::Refusal;
 use rules::Turn;
 use std::fmt;
+use words::FaultReport;
+use words::FaultReportDisplay;
 
 #[derive(Clone, Copy)]
 pub enum Reply {

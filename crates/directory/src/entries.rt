@@ -20,6 +20,24 @@ pub struct LinkEntry {
     pub shipper: u16,
 }
 
+impl PartyEntry {
+    // What stands in a place that no party has taken.
+    pub const BLANK: PartyEntry = PartyEntry {
+        number: 0,
+        role: Role::Gainer,
+        qualified: false,
+        sanctioned: false,
+    };
+}
+
+impl LinkEntry {
+    // What stands in a place that no link has taken.
+    pub const BLANK: LinkEntry = LinkEntry {
+        supplier: 0,
+        shipper: 0,
+    };
+}
+
 // Parties by their numbers, and one party's entries by their roles.
 pub impl Keyed for PartyEntry as PartyByRole {
     type Key = (u16, u8);

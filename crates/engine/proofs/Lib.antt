@@ -1,3 +1,2 @@
-mod Sooner
 mod Posted
 mod Chains

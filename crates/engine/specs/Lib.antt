@@ -1,4 +1,3 @@
-pub mod Earliest
 pub mod State
 pub mod Effects
 pub mod Table

@@ -21,7 +21,7 @@ use Rattle.engine.specs.declared.calls.Answer.{Answer}
 use Rattle.engine.specs.declared.calls.Answer.the-variants.{Taken}
 use Rattle.engine.specs.declared.calls.Call.{Call}
 use Rattle.engine.specs.declared.calls.Call.the-variants.{Create, Initial, Advance, Take}
-use Rattle.engine.specs.Earliest.{Earliest}
+use Rattle.agenda.specs.Earliest.{Earliest}
 use Rattle.engine.specs.Effects.{Effect, creating, requesting, advancing}
 use Rattle.engine.specs.State.{State}
 use Rattle.engine.specs.Table.{backwards, overdue, newcomer, crowded}

@@ -1,6 +1,5 @@
 //! The calls of the registration engine, over any register, calendar, outbox and directory.
 pub mod calls;
-mod earliest;
 pub mod engines;
 mod settling;
 

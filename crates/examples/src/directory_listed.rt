@@ -8,13 +8,6 @@ use market::Refusal;
 use market::Role;
 use std::test::*;
 
-const NOBODY: PartyEntry = PartyEntry {
-    number: 0,
-    role: Role::Gainer,
-    qualified: false,
-    sanctioned: false,
-};
-
 fn refused(answer: Result<(), Refusal>, row: u8) -> bool {
     match answer {
         Ok(()) => false,
@@ -24,11 +17,8 @@ fn refused(answer: Result<(), Refusal>, row: u8) -> bool {
 
 #[test]
 fn a_party_is_listed_by_role() -> Result<(), Fail> {
-    let mut parties = [NOBODY; 2];
-    let mut links = [LinkEntry {
-        supplier: 0,
-        shipper: 0,
-    }; 1];
+    let mut parties = [PartyEntry::BLANK; 2];
+    let mut links = [LinkEntry::BLANK; 1];
     let mut book = PartyBook::new(&mut parties, &mut links);
     check(book.add_party(65535, 8, 1, 1).is_ok())?;
     check(book.add_party(65535, 1, 0, 1).is_ok())?;
@@ -38,11 +28,8 @@ fn a_party_is_listed_by_role() -> Result<(), Fail> {
 
 #[test]
 fn refusals_come_in_order() -> Result<(), Fail> {
-    let mut parties = [NOBODY; 1];
-    let mut links = [LinkEntry {
-        supplier: 0,
-        shipper: 0,
-    }; 0];
+    let mut parties = [PartyEntry::BLANK; 1];
+    let mut links = [LinkEntry::BLANK; 0];
     let mut book = PartyBook::new(&mut parties, &mut links);
     check(book.add_party(5, 3, 1, 0).is_ok())?;
     check(refused(book.add_party(5, 2, 1, 0), 1))?;

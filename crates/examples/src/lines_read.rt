@@ -1,15 +1,15 @@
 // Lines and what they give.
 use engine::Call;
-use lines::FaultReport;
-use lines::FaultReportDisplay;
-use lines::FieldFault;
-use lines::LineFault;
 use lines::accept;
 use lines::commands::Command;
 use lines::commands::CommandPartialEq;
 use lines::decode;
-use lines::faults::LineFaultPartialEq;
 use std::test::*;
+use words::FaultReport;
+use words::FaultReportDisplay;
+use words::FieldFault;
+use words::LineFault;
+use words::faults::LineFaultPartialEq;
 
 #[test]
 fn commands() -> Result<(), Fail> {

@@ -6,10 +6,10 @@ use lib.Dec.{ltb}
 use lib.ListN.{length}
 use Rattle.std.specs.declared.result.Result.the-variants.{Err}
 use Rattle.std.proofs.shelf.Tests.{le-ltb, cond-false}
-use Rattle.lines.specs.declared.faults.LineFault.the-variants.{TooLong, UnknownWord}
+use Rattle.words.specs.declared.faults.LineFault.the-variants.{TooLong, UnknownWord}
 use Rattle.lines.specs.declared.verbs.Verb.{Verb}
 use Rattle.lines.specs.Verbs.{nameOf}
-use Rattle.lines.specs.Words.{words}
+use Rattle.words.specs.Words.{words}
 use Rattle.lines.specs.Decoding.{byVerb, byWords, decoded}
 use Rattle.lines.proofs.Named.{not-named}
 

@@ -12,9 +12,9 @@ use Rattle.std.specs.Options.{isSome, okOr}
 use Rattle.std.specs.declared.option.Option.the-variants.{Some, None}
 use Rattle.std.specs.declared.result.Result.the-variants.{Ok, Err}
 use Rattle.std.proofs.shelf.Tests.{eq-eqb, cond-true, cond-false}
-use Rattle.lines.specs.declared.faults.FieldFault.{FieldFault}
-use Rattle.lines.specs.declared.faults.LineFault.the-variants.{WrongCount, Field}
-use Rattle.lines.specs.Numbers.{numeral, weighed}
+use Rattle.words.specs.declared.faults.FieldFault.{FieldFault}
+use Rattle.words.specs.declared.faults.LineFault.the-variants.{WrongCount, Field}
+use Rattle.words.specs.Numbers.{numeral, weighed}
 use Rattle.lines.specs.Decoding.{firstBad, unlessBad, fieldsOf}
 
 -- i of the N fields `all` are read, into `out`, and `rest` is left

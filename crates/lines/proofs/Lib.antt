@@ -1,5 +1,3 @@
-pub mod Numerals
-pub mod Splits
 pub mod Named
 pub mod Fields
 pub mod Chosen

@@ -14,12 +14,12 @@ use Rattle.lines.specs.declared.verbs.Verb.the-variants as v
 use Rattle.lines.specs.declared.commands.Command.{Command}
 use Rattle.lines.specs.declared.commands.Command.the-variants.{Party, Link, Call}
 use Rattle.engine.specs.declared.calls.Call.the-variants as call
-use Rattle.lines.specs.declared.faults.FeedFault.{FeedFault}
-use Rattle.lines.specs.declared.faults.LineFault.{LineFault}
-use Rattle.lines.specs.declared.faults.LineFault.the-variants.{TooLong, UnknownWord, WrongCount, Field}
-use Rattle.lines.specs.Numbers.{numeral, weighed}
+use Rattle.words.specs.declared.faults.FeedFault.{FeedFault}
+use Rattle.words.specs.declared.faults.LineFault.{LineFault}
+use Rattle.words.specs.declared.faults.LineFault.the-variants.{TooLong, UnknownWord, WrongCount, Field}
+use Rattle.words.specs.Numbers.{numeral, weighed}
 use Rattle.lines.specs.Verbs.{countOf, verbOf}
-use Rattle.lines.specs.Words.{words}
+use Rattle.words.specs.Words.{words}
 
 -- the command that a verb gives with its numbers
 abbrev pub makeOf : Verb → List ℕ → Command

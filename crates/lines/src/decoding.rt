@@ -1,16 +1,16 @@
 // From a line to its command.
 ghost use mathlib.Core.Path.{_≡_};
-ghost use Rattle.lines.specs.Words.{left};
+ghost use Rattle.words.specs.Words.{left};
 ghost use Rattle.lines.specs.Decoding.{fieldsOf, commandOf, decoded, accepted};
 use crate::commands::Command;
-use crate::faults::FeedFault;
-use crate::faults::FeedFromLine;
-use crate::faults::LineFault;
-use crate::faults::LineFromField;
-use crate::numbers::number;
-use crate::readers::Reader;
 use crate::verbs::Verb;
 use engine::Call;
+use words::FeedFault;
+use words::FeedFromLine;
+use words::LineFault;
+use words::LineFromField;
+use words::Reader;
+use words::number;
 
 // The most bytes that a line may have.
 pub const LONGEST: usize = 80;

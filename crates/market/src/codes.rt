@@ -19,6 +19,15 @@ const LAST_MOMENT: u32 = 143_999_999;
 const LAST_PARTY_ROLE: u8 = 8;
 
 impl Notice {
+    // What stands in a place that no notice has taken.
+    pub const BLANK: Notice = Notice {
+        point: 0,
+        moment: 0,
+        party: 0,
+        kind: NoticeKind::Validated,
+        role: Role::Gainer,
+    };
+
     pub fn to_bytes(self) -> [u8; 16]
         ensures value { λ r. ⌜ r ≡ bytesOf self ⌝ }
         ensures back { λ r. ⌜ readOf r ≡ self ⌝ }

@@ -3,7 +3,7 @@ ghost use mathlib.Core.Path.{_≡_};
 ghost use Rattle.market.specs.Numbers.{roleNumber, noticeKindNumber, roleOf, noticeKindOf};
 
 // In what role a notice reaches its receiver. The last five are central services and have no party number.
-#[derive(Clone, Copy, Debug, PartialEq, Eq)]
+#[derive(Clone, Copy, PartialEq, Eq)]
 pub enum Role {
     Gainer,
     Supplier,
@@ -64,7 +64,7 @@ impl Role {
     }
 }
 
-#[derive(Clone, Copy, Debug, PartialEq, Eq)]
+#[derive(Clone, Copy, PartialEq, Eq)]
 pub enum NoticeKind {
     Validated,
     Invitation,
@@ -116,7 +116,7 @@ impl NoticeKind {
     }
 }
 
-#[derive(Clone, Copy, Debug, PartialEq, Eq)]
+#[derive(Clone, Copy, PartialEq, Eq)]
 pub struct Notice {
     pub point: u64,
     // The clock after the change that owes the notice.

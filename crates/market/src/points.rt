@@ -2,7 +2,7 @@
 ghost use mathlib.Core.Path.{_≡_};
 ghost use Rattle.market.specs.Numbers.{fuelNumber, statusNumber, stateNumber, requestKindNumber, fuelOf, statusOf};
 
-#[derive(Clone, Copy, Debug, PartialEq, Eq)]
+#[derive(Clone, Copy)]
 pub enum Fuel {
     Gas,
     Electricity,
@@ -30,7 +30,7 @@ impl Fuel {
     }
 }
 
-#[derive(Clone, Copy, Debug, PartialEq, Eq)]
+#[derive(Clone, Copy)]
 pub enum Status {
     Created,
     Operational,
@@ -65,7 +65,7 @@ impl Status {
 }
 
 // How far a pending request has come.
-#[derive(Clone, Copy, Debug, PartialEq, Eq)]
+#[derive(Clone, Copy)]
 pub enum RequestState {
     Validated,
     Confirmed,
@@ -84,7 +84,7 @@ impl RequestState {
     }
 }
 
-#[derive(Clone, Copy, Debug, PartialEq, Eq)]
+#[derive(Clone, Copy)]
 pub enum RequestKind {
     // The point moves from one supplier to another.
     Switch,
@@ -104,7 +104,7 @@ impl RequestKind {
 }
 
 // A pending request for the supply of a point.
-#[derive(Clone, Copy, Debug, PartialEq, Eq)]
+#[derive(Clone, Copy)]
 pub struct Request {
     pub state: RequestState,
     pub kind: RequestKind,
@@ -117,7 +117,7 @@ pub struct Request {
     pub window: Option<u32>,
 }
 
-#[derive(Clone, Copy, Debug, PartialEq, Eq)]
+#[derive(Clone, Copy)]
 pub struct Point {
     pub number: u64,
     pub fuel: Fuel,
@@ -135,4 +135,23 @@ pub struct Point {
     // The day at whose 00:00 the registered supplier leaves.
     pub leaving: Option<u32>,
     pub request: Option<Request>,
+}
+
+impl Point {
+    // What stands in a place that no point has taken.
+    pub const BLANK: Point = Point {
+        number: 0,
+        fuel: Fuel::Gas,
+        domestic: false,
+        status: Status::Created,
+        supplier: None,
+        shipper: None,
+        since: None,
+        mem: None,
+        dc: None,
+        da: None,
+        map: None,
+        leaving: None,
+        request: None,
+    };
 }

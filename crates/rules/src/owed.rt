@@ -4,8 +4,6 @@ ghost use mathlib.Core.List.{[]};
 ghost use mathlib.Core.Path.{_≡_};
 ghost use lib.ListN.{take};
 use market::Notice;
-use market::NoticeKind;
-use market::Role;
 
 #[derive(Clone, Copy)]
 pub struct Owed {
@@ -15,20 +13,11 @@ pub struct Owed {
 }
 
 impl Owed {
-    // What stands in the places that no notice has taken.
-    pub const BLANK: Notice = Notice {
-        point: 0,
-        moment: 0,
-        party: 0,
-        kind: NoticeKind::Validated,
-        role: Role::Gainer,
-    };
-
     pub fn none() -> Owed
         ensures { λ r. ⌜ take (r .count) (r .notices) ≡ [] ⌝ }
     {
         Owed {
-            notices: [Self::BLANK; 13],
+            notices: [Notice::BLANK; 13],
             count: 0,
         }
     }

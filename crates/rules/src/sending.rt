@@ -106,7 +106,7 @@ impl Mailing {
     pub fn owed(self) -> Owed
         ensures { λ r. ⌜ listed r ≡ mailed self ⌝ }
     {
-        let mut notices = [Owed::BLANK; 13];
+        let mut notices = [Notice::BLANK; 13];
         let mut count = 0;
         for i in 0..13 {
             if let Some(notice) = self.notice_to(ROLES[i]) {

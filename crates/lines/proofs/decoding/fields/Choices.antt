@@ -1,4 +1,4 @@
-use Rattle.lines.specs.Words.{left}
+use Rattle.words.specs.Words.{left}
 use Rattle.lines.proofs.Fields.{Kept}
 use Rattle.lines.proofs.decoding.fields.Given as given
 
