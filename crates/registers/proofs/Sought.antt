@@ -1,8 +1,8 @@
 -- Points in the order of their numbers, as a look-up by number.
-use Prim.Native.Nat.{ℕ, _<_}
+use Prim.Native.Nat.{ℕ, _<_, _≤_}
 use mathlib.Core.Bool.{Bool, true, false, cond, not, _&&_}
 use mathlib.Core.List.{List, [], _∷_}
-use mathlib.Core.Path.{_≡_, refl, sym, ap, subst, _∙_}
+use mathlib.Core.Path.{_≡_, refl, sym, ap, _∙_}
 use lib.Dec.{ltb}
 use lib.ListN.{length}
 use native.Mathlib.Omega.{arith}
@@ -19,11 +19,11 @@ use Rattle.tables.specs.Keys.{seek, join, swap, belowAll}
 use Rattle.tables.specs.Points.{numberOf}
 use Rattle.registers.specs.Points.{InOrder, pointIn, placeIn}
 
-not-some : {X : Type 0} (o : Option X) → isSome o ≡ false → o ≡ None
+pub not-some : {X : Type 0} (o : Option X) → isSome o ≡ false → o ≡ None
 not-some None h = refl
 not-some (Some y) h = grind arith
 
-free-none : {X : Type 0} (o : Option X) (b : Bool) → true ≡ not (isSome o) && b → o ≡ None
+pub free-none : {X : Type 0} (o : Option X) (b : Bool) → true ≡ not (isSome o) && b → o ≡ None
 free-none None b h = refl
 free-none (Some x) b h = grind arith
 
@@ -74,17 +74,19 @@ look-seek n (x ∷ xs) up =
       none = λ k a b. let above = found-above k x xs (and-parts _ _ up .0) in let none = not-some (pointIn xs k) in grind (arith, tells);
     })
 
--- ---- the places after an addition and after a replacement
-some-put : (p : Point) (f : ℕ → Option Point) (k : ℕ) → isSome (putAt true p f k) ≡ false → isSome (f k) ≡ false
-some-put p f k h = grind (arith, tells)
+-- ---- the places after an addition, in whatever order, and after a replacement
+some-put : (r : Bool) (p : Point) (f : ℕ → Option Point) (k : ℕ) → isSome (putAt r p f k) ≡ false → isSome (f k) ≡ false
+some-put r p f k h = grind (arith, tells)
 
-pub shrinks : (p : Point) (xs ys : List Point) (n m : ℕ) (r : Bool) → r ≡ placeIn xs n (p .number) → ys ≡ cond r (join numberOf ltb p xs) xs → m ≡ n → (k : ℕ) → placeIn ys m k ≡ true → placeIn xs n k ≡ true
-shrinks p xs ys n m true told holds size k h =
-    let put = ap isSome (look-add p xs ys n true told holds k) in
-    let less = some-put p (pointIn xs) k in
-    let long = ap length holds ∙ length-join numberOf ltb numbers-ordered p xs in
+pub shrinks : (p : Point) (xs ys : List Point) (n m : ℕ) (r : Bool) → ((k : ℕ) → pointIn ys k ≡ putAt r p (pointIn xs) k) → length xs ≤ length ys → m ≡ n → (k : ℕ) → placeIn ys m k ≡ true → placeIn xs n k ≡ true
+shrinks p xs ys n m r after long size k h =
+    let put = ap isSome (after k) in
+    let less = some-put r p (pointIn xs) k in
     grind (arith, tells)
-shrinks p xs ys n m false told holds size k h = subst (λ l. placeIn l n k ≡ true) holds (subst (λ z. placeIn ys z k ≡ true) size h)
+
+pub no-fewer : (p : Point) (xs ys : List Point) (r : Bool) → ys ≡ cond r (join numberOf ltb p xs) xs → length xs ≤ length ys
+no-fewer p xs ys true holds = let long = ap length holds ∙ length-join numberOf ltb numbers-ordered p xs in omega arith
+no-fewer p xs ys false holds = let long = ap length holds in omega arith
 
 pub refused : (p : Point) (xs ys : List Point) (n m : ℕ) (r : Bool) → ys ≡ cond r (join numberOf ltb p xs) xs → m ≡ n → r ≡ false → (k : ℕ) → placeIn ys m k ≡ placeIn xs n k
 refused p xs ys n m true holds size e k = absurd (both-ways true e refl)

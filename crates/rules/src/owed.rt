@@ -23,7 +23,7 @@ impl Owed {
     }
 
     // The first of the notices, all where there are more wanted.
-    pub fn of(notices: [Notice; 13], count: usize) -> Owed
+    pub(crate) fn of(notices: [Notice; 13], count: usize) -> Owed
         ensures { λ r. ⌜ take (r .count) (r .notices) ≡ take count notices ⌝ }
     {
         let count = if count < 13 { count } else { 13 };

@@ -1,4 +1,4 @@
-mod Sets
+pub mod Sets
 mod Shifts
 pub mod Below
 pub mod Listed
