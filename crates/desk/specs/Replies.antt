@@ -14,7 +14,7 @@ use Rattle.rules.specs.declared.steps.Turn.{Turn}
 use Rattle.rules.specs.declared.steps.Turn.the-variants.{Confirmed, Secured, Completed, Left}
 use Rattle.engine.specs.declared.calls.Answer.{Answer}
 use Rattle.engine.specs.declared.calls.Answer.the-variants as answer
-use Rattle.words.specs.Faults.{faultNumber, faultField}
+use Rattle.words.specs.Faults.{faultNumber, faultField, lineFaultOf}
 use Rattle.desk.specs.declared.replies.Reply.{Reply}
 use Rattle.desk.specs.declared.replies.Reply.the-variants as reply
 
@@ -47,4 +47,4 @@ textOf (reply.Notice n) = codes "notice " ++ (decimal (noticeKindNumber (n .kind
 textOf reply.Nothing = codes "none"
 textOf (reply.Step p t m) = codes "step " ++ (decimal p ++ (codes " " ++ (turnName t ++ (codes " " ++ decimal m))))
 textOf (reply.Reached m) = codes "reached " ++ decimal m
-textOf (reply.Fault f) = codes "line " ++ (decimal (f .line) ++ (codes " fault " ++ (decimal (faultNumber (f .fault .fault)) ++ (codes " field " ++ decimal (faultField (f .fault .fault))))))
+textOf (reply.Fault f) = codes "line " ++ (decimal (f .line) ++ (codes " fault " ++ (decimal (faultNumber (lineFaultOf (f .fault))) ++ (codes " field " ++ decimal (faultField (lineFaultOf (f .fault)))))))

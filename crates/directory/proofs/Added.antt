@@ -9,6 +9,7 @@ use native.Mathlib.Omega.{arith}
 use Rattle.std.specs.Options.{isSome}
 use Rattle.std.specs.declared.option.Option.{Option}
 use Rattle.std.specs.declared.option.Option.the-variants.{Some, None}
+use Rattle.market.proofs.Lists.{free-none}
 use Rattle.tables.proofs.Below.{pairs-ordered, pairs-alike}
 use Rattle.tables.proofs.Listed.{find-join, length-join}
 use Rattle.tables.specs.Keys.{find, join}
@@ -23,10 +24,6 @@ use Rattle.directory.specs.declared.entries.LinkEntry.{LinkEntry}
 past : {X : Type 0} (f : Option X → Bool) (b : Bool) (x : X) (o : Option X) (v : Bool) → f (Some x) ≡ v → f (cond b (Some x) o) ≡ cond b v (f o)
 past f true x o v e = e
 past f false x o v e = refl
-
-free-none : {X : Type 0} (o : Option X) (b : Bool) → true ≡ not (isSome o) && b → o ≡ None
-free-none None b h = refl
-free-none (Some x) b h = grind arith
 
 -- every pair of numbers after the join, where (p, r) is the key of the record that was joined
 looked : {X : Type 0} (own : X → ℕ × ℕ) (p r : ℕ) (x : X) (xs : List X) → own x .0 ≡ p → own x .1 ≡ r → find own pairLess (own x) xs ≡ None → (i j : ℕ) → find own pairLess (i, j) (join own pairLess x xs) ≡ cond (eqb p i && eqb r j) (Some x) (find own pairLess (i, j) xs)

@@ -35,8 +35,11 @@ fn faults() -> Result<(), Fail> {
     check(decode(&[b'x'; 81]) == Err(LineFault::TooLong))?;
     check(decode(b"") == Err(LineFault::UnknownWord))?;
     check(decode(b"take ") == Err(LineFault::WrongCount))?;
-    check(decode(b"advance 10000000000000") == Err(LineFault::Field(FieldFault { place: 1 })))?;
-    check(decode(b"link 1 x") == Err(LineFault::Field(FieldFault { place: 2 })))
+    check(
+        decode(b"advance 10000000000000")
+            == Err(LineFault::Field(FieldFault::NotANumber { place: 1 })),
+    )?;
+    check(decode(b"link 1 x") == Err(LineFault::Field(FieldFault::NotANumber { place: 2 })))
 }
 
 #[test]

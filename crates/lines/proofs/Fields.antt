@@ -13,6 +13,7 @@ use Rattle.std.specs.declared.option.Option.the-variants.{Some, None}
 use Rattle.std.specs.declared.result.Result.the-variants.{Ok, Err}
 use Rattle.std.proofs.shelf.Tests.{eq-eqb, cond-true, cond-false}
 use Rattle.words.specs.declared.faults.FieldFault.{FieldFault}
+use Rattle.words.specs.declared.faults.FieldFault.the-variants.{NotANumber}
 use Rattle.words.specs.declared.faults.LineFault.the-variants.{WrongCount, Field}
 use Rattle.words.specs.Numbers.{numeral, weighed}
 use Rattle.lines.specs.Decoding.{firstBad, unlessBad, fieldsOf}
@@ -54,9 +55,9 @@ done N i all [] out k h e =
     sym (right-count N all e ∙ ap (λ b. unlessBad b (map weighed all)) (k .good) ∙ ap Ok (k .read ∙ append-nil (take i out) ∙ take-all i out (omega (arith, k .room))))
 done N i all (w ∷ ws) out k h e = absurd (omega (arith, k .long))
 
-pub failed : (N i : ℕ) (all was rest : List (List ℕ)) (out w : List ℕ) (d : FieldFault) → Kept N i all was out → was ≡ w ∷ rest → Err d ≡ okOr (numeral w) (record { place = i + 1 }) → length all ≡ N → fieldsOf N all ≡ Err (Field d)
+pub failed : (N i : ℕ) (all was rest : List (List ℕ)) (out w : List ℕ) (d : FieldFault) → Kept N i all was out → was ≡ w ∷ rest → Err d ≡ okOr (numeral w) (NotANumber (i + 1)) → length all ≡ N → fieldsOf N all ≡ Err (Field d)
 failed N i all was rest out w d k is er e =
-    let told = was-err _ (weighed w) d (record { place = i + 1 }) er in
+    let told = was-err _ (weighed w) d (NotANumber (i + 1)) er in
     right-count N all e
     ∙ ap (λ b. unlessBad b (map weighed all)) (k .good ∙ ap (firstBad (i + 1)) is ∙ cond-false (isSome (numeral w)) (firstBad (i + 1 + 1) rest) (Some (i + 1)) (told .0))
     ∙ ap (λ x. Err (Field x)) (sym (told .1))

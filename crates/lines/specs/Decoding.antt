@@ -15,6 +15,8 @@ use Rattle.lines.specs.declared.commands.Command.{Command}
 use Rattle.lines.specs.declared.commands.Command.the-variants.{Party, Link, Call}
 use Rattle.engine.specs.declared.calls.Call.the-variants as call
 use Rattle.words.specs.declared.faults.FeedFault.{FeedFault}
+use Rattle.words.specs.declared.faults.FeedFault.the-variants.{Line}
+use Rattle.words.specs.declared.faults.FieldFault.the-variants.{NotANumber}
 use Rattle.words.specs.declared.faults.LineFault.{LineFault}
 use Rattle.words.specs.declared.faults.LineFault.the-variants.{TooLong, UnknownWord, WrongCount, Field}
 use Rattle.words.specs.Numbers.{numeral, weighed}
@@ -37,7 +39,7 @@ firstBad i (w ∷ ws) = cond (isSome (numeral w)) (firstBad (i + 1) ws) (Some i)
 
 abbrev pub unlessBad : Option ℕ → List ℕ → Result (List ℕ) LineFault
 unlessBad None ns = Ok ns
-unlessBad (Some i) ns = Err (Field (record { place = i }))
+unlessBad (Some i) ns = Err (Field (NotANumber i))
 
 -- the numbers of exactly n fields
 abbrev pub fieldsOf : ℕ → List (List ℕ) → Result (List ℕ) LineFault
@@ -64,7 +66,7 @@ decoded line = cond (ltb 80 (length line)) (Err TooLong) (byWords (words line))
 
 abbrev pub ofFeed : Result Command LineFault → Result Command FeedFault
 ofFeed (Ok c) = Ok c
-ofFeed (Err e) = Err (record { fault = e })
+ofFeed (Err e) = Err (Line e)
 
 abbrev pub accepted : List ℕ → Result Command FeedFault
 accepted line = ofFeed (decoded line)

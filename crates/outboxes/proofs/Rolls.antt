@@ -6,13 +6,8 @@ use mathlib.Core.Logic.{inl, inr, _⊎_}
 use lib.ListN.{length, getD, set, take, drop}
 use native.Mathlib.Omega.{arith}
 use Rattle.std.proofs.shelf.Lists.{append-nil, append-assoc, length-append, length-drop, length-take-le, take-all, drop-all, take-append-le, take-set-le, drop-set-lt, drop-set-add, set-append-left, set-append-right, take-more-set, drop-more, take-more}
+use Rattle.market.proofs.Lists.{set-take}
 use Rattle.outboxes.specs.Rings.{rolled, ring}
-
-set-take : {X : Type 0} (n : ℕ) (xs : List X) (i : ℕ) (x : X) → set (take n xs) i x ≡ take n (set xs i x)
-set-take zero xs i x = refl
-set-take (suc n) [] i x = refl
-set-take (suc n) (y ∷ ys) zero x = refl
-set-take (suc n) (y ∷ ys) (suc i) x = ap (λ l. y ∷ l) (set-take n ys i x)
 
 module _ {X : Type 0} (xs : List X) (f : ℕ) (start : f ≤ length xs) where
   length-rolled : length (rolled xs f) ≡ length xs

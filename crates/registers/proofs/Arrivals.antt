@@ -17,12 +17,11 @@ use Rattle.market.specs.Looks.{putAt, Lowest, LowestFrom}
 use Rattle.market.specs.declared.points.Point.{Point}
 use Rattle.tables.proofs.Below.{numbers-ordered}
 use Rattle.tables.proofs.Listed.{find-at, find-none, find-swap, swap-at}
-use Rattle.tables.proofs.Sets.{set-take}
+use Rattle.market.proofs.Lists.{set-take, not-some, free-none}
 use Rattle.tables.specs.Keys.{swap}
 use Rattle.tables.specs.Orders.{alike}
 use Rattle.tables.specs.Points.{numberOf}
 use Rattle.registers.specs.Points.{pointIn}
-use Rattle.registers.proofs.Sought.{not-some, free-none}
 use Rattle.registers.specs.Arrivals.{apart, Apart, At, lower}
 
 -- ---- a point that comes last

@@ -13,19 +13,12 @@ use Rattle.std.specs.declared.option.Option.{Option}
 use Rattle.std.specs.declared.option.Option.the-variants.{Some, None}
 use Rattle.market.specs.Looks.{putAt, LowestFrom}
 use Rattle.market.specs.declared.points.Point.{Point}
+use Rattle.market.proofs.Lists.{not-some, free-none}
 use Rattle.tables.proofs.Below.{numbers-ordered, numbers-alike}
 use Rattle.tables.proofs.Listed.{find-join, find-swap, find-named, length-join, length-swap}
 use Rattle.tables.specs.Keys.{seek, join, swap, belowAll}
 use Rattle.tables.specs.Points.{numberOf}
 use Rattle.registers.specs.Points.{InOrder, pointIn, placeIn}
-
-pub not-some : {X : Type 0} (o : Option X) → isSome o ≡ false → o ≡ None
-not-some None h = refl
-not-some (Some y) h = grind arith
-
-pub free-none : {X : Type 0} (o : Option X) (b : Bool) → true ≡ not (isSome o) && b → o ≡ None
-free-none None b h = refl
-free-none (Some x) b h = grind arith
 
 -- a place is only where nothing is found
 pub absent : (xs : List Point) (n k : ℕ) (r : Bool) → r ≡ placeIn xs n k → r ≡ true → pointIn xs k ≡ None

@@ -1,4 +1,4 @@
-pub mod Sets
+mod Sets
 mod Shifts
 pub mod Below
 pub mod Listed

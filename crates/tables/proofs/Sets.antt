@@ -20,9 +20,3 @@ read-inserted xs i x d k l =
 pub read-set : {X : Type 0} (xs : List X) (i : ℕ) (x d : X) (k : ℕ) → i < length xs → ((k ≡ i) × (getD (set xs i x) k d ≡ x)) ⊎ ((k ≡ i → ⊥) × (getD (set xs i x) k d ≡ getD xs k d))
 read-set xs i x d k l =
     ⊎-elim (λ e. inl (e, ap (λ j. getD (set xs i x) j d) e ∙ getD-set-same xs i x d l)) (λ ne. inr (ne, getD-set-other xs i k x d ne)) (cases-eq k i)
-
-pub set-take : {X : Type 0} (n : ℕ) (xs : List X) (i : ℕ) (x : X) → set (take n xs) i x ≡ take n (set xs i x)
-set-take zero xs i x = refl
-set-take (suc n) [] i x = refl
-set-take (suc n) (y ∷ ys) zero x = refl
-set-take (suc n) (y ∷ ys) (suc i) x = ap (λ l. y ∷ l) (set-take n ys i x)

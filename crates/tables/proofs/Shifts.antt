@@ -5,7 +5,7 @@ use mathlib.Core.Path.{_≡_, sym, ap, _∙_}
 use lib.ListN.{length, getD, set, take, drop}
 use native.Mathlib.Omega.{arith}
 use Rattle.std.proofs.shelf.Lists.{append-assoc, take-more-set, drop-more, drop-all, length-take-le, getD-take, drop-set-lt}
-use Rattle.tables.proofs.Sets.{set-take}
+use Rattle.market.proofs.Lists.{set-take}
 
 module _ {X : Type 0} (n : ℕ) (target : List X) where
   -- the list that the loop is to leave, with the element on its way put in

@@ -4,14 +4,15 @@ ghost use mathlib.Core.Path.{_≡_};
 ghost use lib.Chars.{codes};
 ghost use Rattle.std.specs.Written.{decimal};
 ghost use Rattle.std.specs.declared.option.Option.the-variants.{Some};
+ghost use Rattle.words.specs.declared.faults.FeedFault.the-variants.{Line};
 ghost use Rattle.words.specs.declared.faults.LineFault.the-variants.{Field};
-ghost use Rattle.words.specs.Faults.{faultNumber, faultField};
+ghost use Rattle.words.specs.Faults.{faultNumber, faultField, lineFaultOf};
 use std::fmt;
 
-// The field is no number of 1 to 13 digits. `place` counts a line's fields from 1.
 #[derive(Clone, Copy, PartialEq, Eq)]
-pub struct FieldFault {
-    pub place: usize,
+pub enum FieldFault {
+    // Not 1 to 13 digits. `place` counts a line's fields from 1.
+    NotANumber { place: usize },
 }
 
 #[derive(Clone, Copy, PartialEq, Eq)]
@@ -23,8 +24,8 @@ pub enum LineFault {
 }
 
 #[derive(Clone, Copy)]
-pub struct FeedFault {
-    pub fault: LineFault,
+pub enum FeedFault {
+    Line(LineFault),
 }
 
 pub impl From<FieldFault> for LineFault as LineFromField {
@@ -36,10 +37,10 @@ pub impl From<FieldFault> for LineFault as LineFromField {
 }
 
 pub impl From<LineFault> for FeedFault as FeedFromLine {
-    ghost converts = { λ e r. r .fault ≡ e };
+    ghost converts = { λ e r. r ≡ Line e };
 
     fn from(e: LineFault) -> FeedFault {
-        FeedFault { fault: e }
+        FeedFault::Line(e)
     }
 }
 
@@ -61,7 +62,7 @@ impl LineFault {
         ensures { λ r. ⌜ r ≡ faultField self ⌝ }
     {
         match self {
-            LineFault::Field(FieldFault { place }) => place,
+            LineFault::Field(FieldFault::NotANumber { place }) => place,
             _ => 0,
         }
     }
@@ -75,12 +76,13 @@ pub struct FaultReport {
 }
 
 pub impl fmt::Display for FaultReport as FaultReportDisplay {
-    ghost shown = { λ x. Some (codes "line " ++ (decimal (x .line) ++ (codes " fault " ++ (decimal (faultNumber (x .fault .fault)) ++ (codes " field " ++ decimal (faultField (x .fault .fault))))))) };
+    ghost shown = { λ x. Some (codes "line " ++ (decimal (x .line) ++ (codes " fault " ++ (decimal (faultNumber (lineFaultOf (x .fault))) ++ (codes " field " ++ decimal (faultField (lineFaultOf (x .fault)))))))) };
 
     fn fmt<W: fmt::Write>(&self, f: &mut fmt::Formatter<W>) -> fmt::Result {
         let line = self.line;
-        let number = self.fault.fault.number();
-        let field = self.fault.fault.field();
+        let FeedFault::Line(fault) = self.fault;
+        let number = fault.number();
+        let field = fault.field();
         write!(f, "line {line} fault {number} field {field}")
     }
 }

@@ -9,15 +9,15 @@ const MOST_DIGITS: usize = 13;
 
 // The number that the word writes; `place` is the field's place on its line, from 1.
 pub fn number(word: &[u8], place: usize) -> Result<u64, FieldFault>
-    ensures { λ r. ⌜ r ≡ okOr (numeral (now (word .entry))) (record { place = place }) ⌝ }
+    ensures { λ r. ⌜ r ≡ okOr (numeral (now (word .entry))) (FieldFault.NotANumber place) ⌝ }
 {
     if word.is_empty() || word.len() > MOST_DIGITS {
-        return Err(FieldFault { place });
+        return Err(FieldFault::NotANumber { place });
     }
     let mut n = 0u64;
     for b in word {
         if !b.is_ascii_digit() {
-            return Err(FieldFault { place });
+            return Err(FieldFault::NotANumber { place });
         }
         n = n * 10 + u64::from(*b - b'0');
     }

@@ -6,7 +6,7 @@ use Rattle.tables.specs.Keys.{inOrder, find}
 use Rattle.tables.specs.Tables.{held, Sound}
 use Rattle.tables.proofs.Listed.{swap-none}
 use Rattle.tables.proofs.Located.{some-found, find-missing, swap-found, rising-found}
-use Rattle.tables.proofs.Sets.{set-take}
+use Rattle.market.proofs.Lists.{set-take}
 use Rattle.tables.proofs.OrderedTable.replace.Needs as need
 
 pub returns-in-Ok : need.returns-in-Ok

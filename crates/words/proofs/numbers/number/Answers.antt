@@ -8,6 +8,7 @@ use lib.Seq.{take-all}
 use Rattle.std.specs.Options.{okOr}
 use Rattle.std.proofs.shelf.Digits.{value-more, digits-more}
 use Rattle.std.proofs.shelf.Text.{digitValue-digit}
+use Rattle.words.specs.declared.faults.FieldFault.the-variants.{NotANumber}
 use Rattle.words.proofs.Numerals.{small, good, bad}
 use Rattle.words.proofs.numbers.number.Needs as need
 use Rattle.words.proofs.numbers.number.Needs.{Else-not-is-ascii-digit}
@@ -15,7 +16,7 @@ use Rattle.words.proofs.numbers.number.Needs.{Else-not-is-ascii-digit}
 pub returns-then-not-is-ascii-digit : need.returns-then-not-is-ascii-digit
 returns-then-not-is-ascii-digit c =
     let b = bad (c .args .word .now) (c .loop-b .b-index) (c .loop-b-test .taken) (λ h. search needs) in
-    sym (ap (λ o. okOr o (record { place = c .args .place })) b)
+    sym (ap (λ o. okOr o (NotANumber (c .args .place))) b)
 
 bound : (c : need.Else-not-is-ascii-digit) → c .loop-b .n < 10 ^ 12
 bound c = rw (c .loop-b .inv .0) (small (take (c .loop-b .b-index) (c .args .word .now)) 12 (c .loop-b .inv .1) (simp length-take (omega arith)))
