@@ -13,7 +13,7 @@ invariant_of-self c =
     let held = length-take-le s.count s.items.now s.fits in
     let room : s.count < length s.items.now = let v = h.value in grind (arith, nat_tests) in
     let long = length-set s.items.now s.count c.args.point in
-    (omega arith, (apart_add s.items.now s.count c.args.point room (h.absent refl) s.apart, tt))
+    record { fits = omega arith; apart = apart_add s.items.now s.count c.args.point room (h.absent refl) s.apart }
 
 pub returns : goal.returns
 returns c =

@@ -11,7 +11,7 @@ invariant_of-self c =
     let p = c.args.point in
     let long = length-set s.items.now c.in-Some.at p in
     let swapped = swap_placed s.items.now s.count s.fits s.apart p.number c.in-Some.at c.in-Some.ensures p refl in
-    (omega (arith, s.fits), (ap apart swapped ∙ apart-swap p (take s.count s.items.now) ∙ s.apart, tt))
+    record { fits = omega (arith, s.fits); apart = ap apart swapped ∙ apart-swap p (take s.count s.items.now) ∙ s.apart }
 
 pub returns-in-Some : goal.returns-in-Some
 returns-in-Some c =
