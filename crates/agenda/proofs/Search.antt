@@ -1,5 +1,5 @@
 -- One point more in the search for the earliest step.
-use Rattle.std.proofs.Common.{◌≡◌, ℕ, ◌+◌, ◌<◌, ◌≤◌, Bool, true, false, cond, ltb, leb, ◌⊎◌, IfSome, Some, None, Option, sym, refl, ap, ◌∙◌, subst, inl, inr, ⊎_elim, arith}
+use Rattle.std.proofs.Common.{◌≡◌, ℕ, ◌+◌, ◌<◌, ◌≤◌, ltb, leb, ◌⊎◌, IfSome, Some, None, Option, sym, refl, ap, ◌∙◌, subst, inl, inr, ⊎_elim, arith}
 use Rattle.std.specs.Option.{option_map}
 use Rattle.std.proofs.lemmas.Bool.{cases_lt, cases_order, cond_both, leb-true, leb-false, ltb-true, ltb-false}
 use Rattle.market.specs.declared.points.Point.{Point}
@@ -7,7 +7,7 @@ use Rattle.market.specs.Looks.{Lowest}
 use Rattle.rules.specs.declared.steps.Step.{Step}
 use Rattle.rules.specs.declared.steps.Turn.{Turn}
 use Rattle.rules.specs.Steps.{step_of, next_step}
-use Rattle.agenda.specs.Earliest.{NotBefore, First, NoneUpTo, Earliest, sooner}
+use Rattle.agenda.specs.Earliest.{NotBefore, First, Earliest, sooner}
 
 -- a step is of the point it was found at
 mapped_point : (p : Point) (o : Option (Turn × ℕ)) (t : Step) → option_map (λ x. record { point = p; turn = x.0; moment = x.1 }) o ≡ Some t → t.point ≡ p

@@ -1,6 +1,5 @@
 -- The reply to an answer, and its text.
-use Rattle.std.specs.Prelude.{ℕ, List, ◌++◌, Some, None, Ok, Err, codes, decimal, Option, Result}
-use Rattle.market.specs.declared.notices.Notice.{Notice}
+use Rattle.std.specs.Prelude.{ℕ, List, ◌++◌, Some, None, Ok, Err, codes, decimal, Result}
 use Rattle.market.specs.declared.refusals.Refusal.{Refusal}
 use Rattle.market.specs.Numbers.{refusal_number, notice_kind_number, role_number}
 use Rattle.rules.specs.declared.steps.Turn.{Turn}

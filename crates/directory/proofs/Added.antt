@@ -1,5 +1,5 @@
 -- What is listed after a record was joined to those in order.
-use Rattle.std.proofs.Common.{◌≡◌, ℕ, Bool, true, false, cond, not, ◌&&◌, eqb, List, length, is_some, Some, None, Option, refl, ap, ◌∙◌, arith}
+use Rattle.std.proofs.Common.{◌≡◌, ℕ, Bool, true, false, cond, not, ◌&&◌, eqb, List, length, is_some, Some, None, Option, refl, ap, ◌∙◌}
 use Rattle.market.proofs.Lists.{free_none}
 use Rattle.tables.proofs.Below.{pairs_ordered, pairs_alike}
 use Rattle.tables.proofs.Listed.{find-join, length-join}

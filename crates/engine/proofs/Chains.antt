@@ -1,5 +1,5 @@
 -- A chain of checks, one after the other, is the outcome that the table gives.
-use Rattle.std.proofs.Common.{◌≡◌, ℕ, Bool, true, false, List, [], Some, None, Ok, Err, Option, Result, sym, refl, ◌∙◌, subst, arith}
+use Rattle.std.proofs.Common.{◌≡◌, ℕ, List, Some, None, Ok, Err, Option, Result, sym, refl, ◌∙◌, subst, arith}
 use Rattle.market.specs.declared.refusals.Refusal.{Refusal}
 use Rattle.market.specs.declared.refusals.Refusal.TheVariants.{OutsideLimits}
 use Rattle.rules.specs.Limits.{or_outside}
@@ -7,7 +7,7 @@ use Rattle.rules.specs.Rows.{Row, first_of, passing, Parties}
 use Rattle.engine.specs.declared.calls.Answer.{Answer}
 use Rattle.engine.specs.declared.calls.Call.{Call}
 use Rattle.engine.specs.Effects.{Effect}
-use Rattle.engine.specs.Outcome.{Unchanged, Refused, Needs, Unless, Passes, Settled, Outcome}
+use Rattle.engine.specs.Outcome.{Unchanged, Needs, Unless, Passes, Settled, Outcome}
 use Rattle.engine.specs.State.{State}
 
 pub unchanged : (s : State) → Unchanged s s

@@ -1,5 +1,5 @@
 -- One notice more at the end of an outbox.
-use Rattle.std.proofs.Common.{◌≡◌, ℕ, ◌+◌, ◌<◌, Bool, true, false, cond, List, [], ◌∷◌, ◌++◌, length, get_or, take, sym, refl, ap, ◌∙◌, append_assoc}
+use Rattle.std.proofs.Common.{◌≡◌, ℕ, ◌+◌, ◌<◌, Bool, true, cond, List, [], ◌∷◌, ◌++◌, length, get_or, take, sym, ap, ◌∙◌, append_assoc}
 use Rattle.std.proofs.lemmas.List.{take_more}
 
 pub posted : {X : Type 0} (start was now : List X) (xs : List X) (i : ℕ) (d : X) (b : Bool) → b ≡ true → now ≡ cond b (was ++ get_or xs i d ∷ []) was → was ≡ start ++ take i xs → i < length xs → now ≡ start ++ take (i + 1) xs

@@ -1,12 +1,11 @@
 -- The rows that a call meets after its numbers were found within their limits, in the table's order.
-use Rattle.std.specs.Prelude.{ℕ, not, List, [], ◌∷◌, ◌++◌, length, is_some, Option, nat_lt}
+use Rattle.std.specs.Prelude.{ℕ, not, List, [], ◌∷◌, length, is_some, Option, nat_lt}
 use Rattle.market.specs.declared.points.Point.{Point}
 use Rattle.market.specs.declared.refusals.Refusal.TheVariants.{BeforeClock, StepDue, AlreadyThere, NoPlace, OutboxFull}
-use Rattle.rules.specs.declared.limits.Asked.{Asked}
 use Rattle.rules.specs.declared.steps.Step.{Step}
-use Rattle.rules.specs.Rows.{Row, row, Parties, initial_rows}
+use Rattle.rules.specs.Rows.{Row, row}
 use Rattle.engine.specs.State.{State}
-use Rattle.engine.specs.Effects.{Effect, requesting, advancing}
+use Rattle.engine.specs.Effects.{Effect}
 
 -- row 2: advance to before the clock
 abbrev pub backwards : State → ℕ → List Row

@@ -42,6 +42,6 @@ fn printed(rt: HostRuntime) -> Result<(), Fail> {
         return Err(Fail::new("accepted"));
     };
     let text = format!(in rt.alloc(); "{}", FaultReport { line: 3, fault })?;
-    assert!(rt; text == "line 3 fault 21 field 2");
+    assert!(rt; text.as_str() == "line 3 fault 21 field 2");
     Ok(())
 }

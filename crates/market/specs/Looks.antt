@@ -1,5 +1,5 @@
 -- A register as a function from numbers to points.
-use Rattle.std.specs.Prelude.{◌≡◌, ℕ, ◌<◌, ◌≤◌, Bool, true, false, cond, ◌&&◌, Some, None, Option, MatchOption, ◌==◌}
+use Rattle.std.specs.Prelude.{◌≡◌, ℕ, ◌<◌, ◌≤◌, Bool, cond, ◌&&◌, Some, None, Option, MatchOption, ◌==◌}
 use Rattle.market.specs.declared.points.Point.{Point}
 
 -- the look-up f, with p at its number where b says so

@@ -1,5 +1,5 @@
 -- What a ring holds after an addition at its end and a removal at its start.
-use Rattle.std.proofs.Common.{◌≡◌, ℕ, zero, suc, ◌+◌, ◌-◌, ◌<◌, ◌≤◌, ◌⊎◌, List, [], ◌∷◌, ◌++◌, length, get_or, take, drop, set, sym, refl, ap, ◌∙◌, inl, inr, arith}
+use Rattle.std.proofs.Common.{◌≡◌, ℕ, suc, ◌+◌, ◌-◌, ◌<◌, ◌≤◌, ◌⊎◌, List, [], ◌∷◌, ◌++◌, length, get_or, take, drop, set, sym, ap, ◌∙◌, inl, inr, arith}
 use Rattle.std.proofs.lemmas.List.{append-nil, append_assoc, length-append, length-drop, length-take-le, take_all, drop_all, take-append-le, take-set-le, drop-set-lt, drop-set-add, set-append_left, set-append_right, take_more_set, drop_more, take_more}
 use Rattle.market.proofs.Lists.{set-take}
 use Rattle.outboxes.specs.Rings.{rolled, ring}

@@ -1,7 +1,7 @@
 -- What the check of one row tells of it.
-use Rattle.std.proofs.Common.{◌≡◌, ℕ, Bool, true, false, List, [], ◌∷◌, Ok, Err, Result, refl, arith}
+use Rattle.std.proofs.Common.{◌≡◌, ℕ, Bool, true, false, [], ◌∷◌, Ok, Err, refl, arith}
 use Rattle.market.specs.declared.refusals.Refusal.{Refusal}
-use Rattle.rules.specs.Rows.{Row, row, first_of, passing}
+use Rattle.rules.specs.Rows.{row, first_of, passing}
 
 -- a row that lets pass does not apply
 pub passed : (r : Refusal) (b : Bool) (x : Unit {0}) → Ok x ≡ passing (first_of (row r b ∷ [])) → b ≡ false

@@ -1,5 +1,5 @@
 -- One role more on a list.
-use Rattle.std.proofs.Common.{◌≡◌, ℕ, ◌+◌, ◌<◌, ◌≤◌, List, [], ◌∷◌, ◌++◌, length, get_or, take, set, Some, None, Option, sym, refl, ap, ◌∙◌, append-nil}
+use Rattle.std.proofs.Common.{◌≡◌, ℕ, ◌+◌, ◌<◌, List, [], ◌∷◌, ◌++◌, length, get_or, take, set, Some, None, Option, sym, refl, ap, ◌∙◌, append-nil}
 use Rattle.std.proofs.lemmas.List.{take_more, take_more_set}
 use Rattle.market.specs.declared.notices.Notice.{Notice}
 use Rattle.market.specs.declared.notices.Role.{Role}

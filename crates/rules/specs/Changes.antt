@@ -1,5 +1,5 @@
 -- What an accepted request and a step owe, and the request itself.
-use Rattle.std.specs.Prelude.{ℕ, List, [], Some, None, Option}
+use Rattle.std.specs.Prelude.{ℕ, List, [], None, Option}
 use Rattle.market.specs.declared.notices.Notice.{Notice}
 use Rattle.market.specs.declared.notices.NoticeKind.TheVariants as kind
 use Rattle.market.specs.declared.points.Point.{Point}

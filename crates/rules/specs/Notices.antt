@@ -1,5 +1,5 @@
 -- Who is told of a change, and in which order.
-use Rattle.std.specs.Prelude.{ℕ, Bool, true, false, cond, not, ◌&&◌, ◌||◌, List, [], ◌∷◌, take, is_some, Some, None, Option}
+use Rattle.std.specs.Prelude.{ℕ, Bool, true, false, cond, not, ◌&&◌, ◌||◌, List, [], ◌∷◌, is_some, Some, None, Option}
 use Rattle.std.specs.Option.{option_map}
 use Rattle.market.specs.declared.notices.Notice.{Notice}
 use Rattle.market.specs.declared.notices.Role.{Role}

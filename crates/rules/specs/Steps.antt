@@ -1,5 +1,5 @@
 -- A point's next step, and the point after it.
-use Rattle.std.specs.Prelude.{ℕ, ◌+◌, ◌-◌, ◌*◌, Bool, Some, None, Option}
+use Rattle.std.specs.Prelude.{ℕ, ◌+◌, ◌-◌, ◌*◌, Some, None, Option}
 use Rattle.std.specs.Option.{option_map}
 use Rattle.market.specs.declared.points.Point.{Point}
 use Rattle.market.specs.declared.points.Request.{Request}

@@ -1,4 +1,4 @@
-use Rattle.std.proofs.Common.{◌≡◌, ◌+◌, ◌^◌, ◌<◌, sym, subst, arith}
+use Rattle.std.proofs.Common.{◌≡◌, ◌+◌, ◌^◌, sym, subst, arith}
 use Rattle.agenda.specs.Earliest.{Earliest}
 use Rattle.agenda.proofs.Search.{earliest_more}
 use Rattle.agenda.proofs.earliest.Goals as goal

@@ -1,4 +1,3 @@
-use Rattle.std.proofs.Common.{◌∙◌}
 use Rattle.std.proofs.lemmas.Result.{err_from_is_err_and}
 use Rattle.rules.proofs.Firsts.{passed, applied, given_by}
 use Rattle.rules.proofs.rows.check_initial.Goals as goal
