@@ -1,12 +1,14 @@
 -- The sixteen bytes of a notice say what it is, and no other notice within its limits has them.
-use Rattle.std.proofs.Common.{◌≡◌, ℕ, ◌+◌, ◌*◌, ◌/◌, ◌%◌, ◌<◌, List, [], ◌∷◌, get_or, Some, unwrap_or, sym, refl, ap, ◌∙◌, mod-eq_of_lt, arith, lit<}
+use Rattle.std.proofs.Common.{◌≡◌, ℕ, ◌+◌, ◌*◌, ◌/◌, ◌%◌, ◌<◌, List, [], ◌∷◌, get_or, Some, unwrap_or, sym, refl, ap, ◌∙◌, mod-eq_of_lt, arith, lit<, Option, None}
+use Rattle.std.specs.Option.{ok_or}
+use Rattle.std.specs.Result.{result_unwrap_or}
 use lib.Arith.{mod-mul}
 use Rattle.market.specs.declared.notices.Notice.{Notice}
 use Rattle.market.specs.declared.notices.NoticeKind.{NoticeKind}
 use Rattle.market.specs.declared.notices.NoticeKind.TheVariants as kind
 use Rattle.market.specs.declared.notices.Role.{Role}
 use Rattle.market.specs.declared.notices.Role.TheVariants as role
-use Rattle.market.specs.Numbers.{role_number, notice_kind_number, role_of, notice_kind_of}
+use Rattle.market.specs.Numbers.{role_number, notice_kind_number, role_of, notice_kind_of, unknown}
 use Rattle.market.specs.Codes.{bytes_of, read_of, Valid}
 
 -- a number of two, four or eight bytes is read back from its bytes
@@ -62,6 +64,11 @@ role_of_number role.Des = refl
 role_of_number role.GasAgent = refl
 role_of_number role.Ecoes = refl
 role_of_number role.ElectricityAgent = refl
+
+-- the case of a number, or else the first
+pub case_or : {X : Type 0} (o : Option X) (x : X) → result_unwrap_or (ok_or o unknown) x ≡ unwrap_or o x
+case_or None x = refl
+case_or (Some y) x = refl
 
 -- a notice that fits its types is read back from its bytes
 pub read_back : (n : Notice) → n.point < 18446744073709551616 → n.moment < 4294967296 → n.party < 65536 → read_of (bytes_of n) ≡ n

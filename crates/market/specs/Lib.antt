@@ -1,4 +1,6 @@
 pub mod Numbers
+pub mod Refusals
+pub mod Stores
 pub mod Looks
 pub mod Waits
 pub mod Codes

@@ -12,6 +12,7 @@ use Rattle.market.specs.declared.notices.NoticeKind.{NoticeKind}
 use Rattle.market.specs.declared.notices.NoticeKind.TheVariants as kind
 use Rattle.market.specs.declared.notices.Role.{Role}
 use Rattle.market.specs.declared.notices.Role.TheVariants as role
+use Rattle.market.specs.declared.refusals.UnknownNumber.{UnknownNumber}
 use Rattle.market.specs.declared.refusals.Refusal.{Refusal}
 use Rattle.market.specs.declared.refusals.Refusal.TheVariants as row
 
@@ -107,3 +108,7 @@ notice_kinds = kind.Validated ∷ kind.Invitation ∷ kind.Confirmed ∷ kind.Re
 
 abbrev pub notice_kind_of : ℕ → Option NoticeKind
 notice_kind_of n = numbered notice_kind_number notice_kinds n
+
+-- what is said of a number of no case
+abbrev pub unknown : UnknownNumber
+unknown = record {}

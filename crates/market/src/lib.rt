@@ -5,12 +5,15 @@
 #![tactic(auto)]
 
 pub mod codes;
+pub mod limits;
 pub mod notices;
 pub mod points;
+pub mod received;
 pub mod refusals;
 pub mod stores;
 
 pub use notices::{Notice, NoticeKind, Role};
 pub use points::{Fuel, Point, Request, RequestKind, RequestState, Status};
-pub use refusals::Refusal;
+pub use received::{NewLink, NewParty, NewPoint, NewRequest};
+pub use refusals::{Absent, AddError, OutboxFull, Refusal, UnknownNumber};
 pub use stores::{Calendar, Directory, Outbox, Register};

@@ -1,127 +1,135 @@
 // A notice to a party of the market.
 ghost use Rattle.std.specs.Prelude.{◌≡◌};
-ghost use Rattle.market.specs.Numbers.{role_number, notice_kind_number, role_of, notice_kind_of};
+ghost use Rattle.std.specs.Option.{ok_or};
+ghost use Rattle.market.specs.Numbers.{role_number, notice_kind_number, role_of, notice_kind_of, roles, unknown};
+
+use crate::refusals::UnknownNumber;
 
 // In what role a notice reaches its receiver. The last five are central services and have no party number.
-#[derive(Clone, Copy, PartialEq, Eq)]
+#[derive(Clone, Copy, Debug, PartialEq, Eq)]
 pub enum Role {
-    Gainer,
-    Supplier,
-    GainingShipper,
-    Shipper,
-    Mem,
-    Dc,
-    Da,
-    Map,
-    Dcc,
-    Des,
-    GasAgent,
-    Ecoes,
-    ElectricityAgent,
+    Gainer = 1,
+    Supplier = 2,
+    GainingShipper = 3,
+    Shipper = 4,
+    Mem = 5,
+    Dc = 6,
+    Da = 7,
+    Map = 8,
+    Dcc = 9,
+    Des = 10,
+    GasAgent = 11,
+    Ecoes = 12,
+    ElectricityAgent = 13,
 }
 
 impl Role {
-    pub fn number(self) -> u8
-        ensures { result ≡ role_number self }
-    {
-        match self {
-            Role::Gainer => 1,
-            Role::Supplier => 2,
-            Role::GainingShipper => 3,
-            Role::Shipper => 4,
-            Role::Mem => 5,
-            Role::Dc => 6,
-            Role::Da => 7,
-            Role::Map => 8,
-            Role::Dcc => 9,
-            Role::Des => 10,
-            Role::GasAgent => 11,
-            Role::Ecoes => 12,
-            Role::ElectricityAgent => 13,
-        }
-    }
+    // The thirteen roles, rising.
+    pub const ALL: [Role; 13] = [
+        Role::Gainer,
+        Role::Supplier,
+        Role::GainingShipper,
+        Role::Shipper,
+        Role::Mem,
+        Role::Dc,
+        Role::Da,
+        Role::Map,
+        Role::Dcc,
+        Role::Des,
+        Role::GasAgent,
+        Role::Ecoes,
+        Role::ElectricityAgent,
+    ];
+}
 
-    // The role with this number.
-    pub fn from_number(number: u64) -> Option<Role>
-        ensures { result ≡ role_of number }
-    {
+// The number of the role.
+impl From<Role> for u8 {
+    ghost from_gives = { λ role number. number ≡ role_number role };
+
+    fn from(role: Role) -> u8 {
+        role as u8
+    }
+}
+
+// The role with this number.
+impl TryFrom<u64> for Role {
+    type Error = UnknownNumber;
+
+    ghost try_from_gives = { λ number result. result ≡ ok_or (role_of number) unknown };
+
+    fn try_from(number: u64) -> Result<Role, UnknownNumber> {
         match number {
-            1 => Some(Role::Gainer),
-            2 => Some(Role::Supplier),
-            3 => Some(Role::GainingShipper),
-            4 => Some(Role::Shipper),
-            5 => Some(Role::Mem),
-            6 => Some(Role::Dc),
-            7 => Some(Role::Da),
-            8 => Some(Role::Map),
-            9 => Some(Role::Dcc),
-            10 => Some(Role::Des),
-            11 => Some(Role::GasAgent),
-            12 => Some(Role::Ecoes),
-            13 => Some(Role::ElectricityAgent),
-            _ => None,
+            1 => Ok(Role::Gainer),
+            2 => Ok(Role::Supplier),
+            3 => Ok(Role::GainingShipper),
+            4 => Ok(Role::Shipper),
+            5 => Ok(Role::Mem),
+            6 => Ok(Role::Dc),
+            7 => Ok(Role::Da),
+            8 => Ok(Role::Map),
+            9 => Ok(Role::Dcc),
+            10 => Ok(Role::Des),
+            11 => Ok(Role::GasAgent),
+            12 => Ok(Role::Ecoes),
+            13 => Ok(Role::ElectricityAgent),
+            _ => Err(UnknownNumber),
         }
     }
 }
 
-#[derive(Clone, Copy, PartialEq, Eq)]
+#[derive(Clone, Copy, Debug, PartialEq, Eq)]
 pub enum NoticeKind {
-    Validated,
-    Invitation,
-    Confirmed,
-    Rejected,
-    Withdrawn,
-    Annulled,
-    Cancelled,
-    Secured,
-    Deregistered,
-    MemAppointed,
+    Validated = 1,
+    Invitation = 2,
+    Confirmed = 3,
+    Rejected = 4,
+    Withdrawn = 5,
+    Annulled = 6,
+    Cancelled = 7,
+    Secured = 8,
+    Deregistered = 9,
+    MemAppointed = 10,
 }
 
-impl NoticeKind {
-    pub fn number(self) -> u8
-        ensures { result ≡ notice_kind_number self }
-    {
-        match self {
-            NoticeKind::Validated => 1,
-            NoticeKind::Invitation => 2,
-            NoticeKind::Confirmed => 3,
-            NoticeKind::Rejected => 4,
-            NoticeKind::Withdrawn => 5,
-            NoticeKind::Annulled => 6,
-            NoticeKind::Cancelled => 7,
-            NoticeKind::Secured => 8,
-            NoticeKind::Deregistered => 9,
-            NoticeKind::MemAppointed => 10,
-        }
-    }
+// The number of the kind.
+impl From<NoticeKind> for u8 {
+    ghost from_gives = { λ kind number. number ≡ notice_kind_number kind };
 
-    // The kind with this number.
-    pub fn from_number(number: u64) -> Option<NoticeKind>
-        ensures { result ≡ notice_kind_of number }
-    {
+    fn from(kind: NoticeKind) -> u8 {
+        kind as u8
+    }
+}
+
+// The kind with this number.
+impl TryFrom<u64> for NoticeKind {
+    type Error = UnknownNumber;
+
+    ghost try_from_gives = { λ number result. result ≡ ok_or (notice_kind_of number) unknown };
+
+    fn try_from(number: u64) -> Result<NoticeKind, UnknownNumber> {
         match number {
-            1 => Some(NoticeKind::Validated),
-            2 => Some(NoticeKind::Invitation),
-            3 => Some(NoticeKind::Confirmed),
-            4 => Some(NoticeKind::Rejected),
-            5 => Some(NoticeKind::Withdrawn),
-            6 => Some(NoticeKind::Annulled),
-            7 => Some(NoticeKind::Cancelled),
-            8 => Some(NoticeKind::Secured),
-            9 => Some(NoticeKind::Deregistered),
-            10 => Some(NoticeKind::MemAppointed),
-            _ => None,
+            1 => Ok(NoticeKind::Validated),
+            2 => Ok(NoticeKind::Invitation),
+            3 => Ok(NoticeKind::Confirmed),
+            4 => Ok(NoticeKind::Rejected),
+            5 => Ok(NoticeKind::Withdrawn),
+            6 => Ok(NoticeKind::Annulled),
+            7 => Ok(NoticeKind::Cancelled),
+            8 => Ok(NoticeKind::Secured),
+            9 => Ok(NoticeKind::Deregistered),
+            10 => Ok(NoticeKind::MemAppointed),
+            _ => Err(UnknownNumber),
         }
     }
 }
 
-#[derive(Clone, Copy, PartialEq, Eq)]
+#[derive(Clone, Copy, Debug, PartialEq, Eq)]
 pub struct Notice {
     pub point: u64,
     // The clock after the change that owes the notice.
     pub moment: u32,
-    // The receiver's number, 0 for a central service.
+    // The receiver's number, 0 for a central service. No Option: `Some(0)` would be a second value of
+    // the same bytes, and what was written would not be what is read back.
     pub party: u16,
     pub kind: NoticeKind,
     pub role: Role,

@@ -1,110 +1,110 @@
 // A meter point and what is known of it.
 ghost use Rattle.std.specs.Prelude.{◌≡◌};
-ghost use Rattle.market.specs.Numbers.{fuel_number, status_number, state_number, request_kind_number, fuel_of, status_of};
+ghost use Rattle.std.specs.Option.{ok_or};
+ghost use Rattle.market.specs.Numbers.{fuel_number, status_number, state_number, request_kind_number, fuel_of, status_of, unknown};
 
-#[derive(Clone, Copy)]
+use crate::refusals::UnknownNumber;
+
+#[derive(Clone, Copy, Debug, PartialEq, Eq)]
 pub enum Fuel {
-    Gas,
-    Electricity,
+    Gas = 1,
+    Electricity = 2,
 }
 
-impl Fuel {
-    pub fn number(self) -> u8
-        ensures { result ≡ fuel_number self }
-    {
-        match self {
-            Fuel::Gas => 1,
-            Fuel::Electricity => 2,
-        }
-    }
+// The number of the fuel.
+impl From<Fuel> for u8 {
+    ghost from_gives = { λ fuel number. number ≡ fuel_number fuel };
 
-    // The fuel with this number.
-    pub fn from_number(number: u64) -> Option<Fuel>
-        ensures { result ≡ fuel_of number }
-    {
+    fn from(fuel: Fuel) -> u8 {
+        fuel as u8
+    }
+}
+
+// The fuel with this number.
+impl TryFrom<u64> for Fuel {
+    type Error = UnknownNumber;
+
+    ghost try_from_gives = { λ number result. result ≡ ok_or (fuel_of number) unknown };
+
+    fn try_from(number: u64) -> Result<Fuel, UnknownNumber> {
         match number {
-            1 => Some(Fuel::Gas),
-            2 => Some(Fuel::Electricity),
-            _ => None,
+            1 => Ok(Fuel::Gas),
+            2 => Ok(Fuel::Electricity),
+            _ => Err(UnknownNumber),
         }
     }
 }
 
-#[derive(Clone, Copy)]
+#[derive(Clone, Copy, Debug, PartialEq, Eq)]
 pub enum Status {
-    Created,
-    Operational,
-    Dormant,
-    Terminated,
+    Created = 1,
+    Operational = 2,
+    Dormant = 3,
+    Terminated = 4,
 }
 
-impl Status {
-    pub fn number(self) -> u8
-        ensures { result ≡ status_number self }
-    {
-        match self {
-            Status::Created => 1,
-            Status::Operational => 2,
-            Status::Dormant => 3,
-            Status::Terminated => 4,
-        }
-    }
+// The number of the status.
+impl From<Status> for u8 {
+    ghost from_gives = { λ status number. number ≡ status_number status };
 
-    // The status with this number.
-    pub fn from_number(number: u64) -> Option<Status>
-        ensures { result ≡ status_of number }
-    {
+    fn from(status: Status) -> u8 {
+        status as u8
+    }
+}
+
+// The status with this number.
+impl TryFrom<u64> for Status {
+    type Error = UnknownNumber;
+
+    ghost try_from_gives = { λ number result. result ≡ ok_or (status_of number) unknown };
+
+    fn try_from(number: u64) -> Result<Status, UnknownNumber> {
         match number {
-            1 => Some(Status::Created),
-            2 => Some(Status::Operational),
-            3 => Some(Status::Dormant),
-            4 => Some(Status::Terminated),
-            _ => None,
+            1 => Ok(Status::Created),
+            2 => Ok(Status::Operational),
+            3 => Ok(Status::Dormant),
+            4 => Ok(Status::Terminated),
+            _ => Err(UnknownNumber),
         }
     }
 }
 
 // How far a pending request has come.
-#[derive(Clone, Copy)]
+#[derive(Clone, Copy, Debug, PartialEq, Eq)]
 pub enum RequestState {
-    Validated,
-    Confirmed,
-    Secured,
+    Validated = 1,
+    Confirmed = 2,
+    Secured = 3,
 }
 
-impl RequestState {
-    pub fn number(self) -> u8
-        ensures { result ≡ state_number self }
-    {
-        match self {
-            RequestState::Validated => 1,
-            RequestState::Confirmed => 2,
-            RequestState::Secured => 3,
-        }
+// The number of the state.
+impl From<RequestState> for u8 {
+    ghost from_gives = { λ state number. number ≡ state_number state };
+
+    fn from(state: RequestState) -> u8 {
+        state as u8
     }
 }
 
-#[derive(Clone, Copy)]
+#[derive(Clone, Copy, Debug, PartialEq, Eq)]
 pub enum RequestKind {
     // The point moves from one supplier to another.
-    Switch,
+    Switch = 1,
     // The point gets its first supplier, or one after it was left.
-    Initial,
+    Initial = 2,
 }
 
-impl RequestKind {
-    pub fn number(self) -> u8
-        ensures { result ≡ request_kind_number self }
-    {
-        match self {
-            RequestKind::Switch => 1,
-            RequestKind::Initial => 2,
-        }
+// The number of the kind.
+impl From<RequestKind> for u8 {
+    ghost from_gives = { λ kind number. number ≡ request_kind_number kind };
+
+    fn from(kind: RequestKind) -> u8 {
+        kind as u8
     }
 }
 
 // A pending request for the supply of a point.
-#[derive(Clone, Copy)]
+#[derive(Clone, Copy, Debug, PartialEq, Eq)]
 pub struct Request {
     pub state: RequestState,
     pub kind: RequestKind,
@@ -117,7 +117,7 @@ pub struct Request {
     pub window: Option<u32>,
 }
 
-#[derive(Clone, Copy)]
+#[derive(Clone, Copy, Debug, PartialEq, Eq)]
 pub struct Point {
     pub number: u64,
     pub fuel: Fuel,

@@ -1,47 +1,44 @@
 // What the engine is built on, by meaning and not by make: a register of points, a calendar of
 // working days, an outbox of notices and a directory of parties.
-ghost use Rattle.std.specs.Prelude.{◌≡◌, ℕ, ◌-◌, ◌≤◌, Bool, true, false, List, [], ◌∷◌, ◌++◌, is_some, IfSome, if◌then◌else◌, None, Option as Opt, nat_lt};
-ghost use Rattle.market.specs.declared.notices.Notice.{Notice as Notified};
-ghost use Rattle.market.specs.declared.notices.Role.{Role as InRole};
-ghost use Rattle.market.specs.declared.points.Point.{Point as MeterPoint};
+ghost use Rattle.std.specs.Prelude.{◌≡◌, ℕ, ◌-◌, ◌≤◌, Bool, true, false, [], ◌∷◌, ◌++◌, is_some, is_ok, IfSome, if◌then◌else◌, None, nat_lt};
 ghost use Rattle.market.specs.Looks.{put_at, LowestFrom};
+ghost use Rattle.market.specs.Stores.{Registered, Queue, Parties, addition};
 ghost use Rattle.market.specs.Waits.{oldest, others};
 
 use crate::notices::{Notice, Role};
 use crate::points::Point;
+use crate::refusals::{Absent, AddError, OutboxFull};
 
 // A set of points, no two of one number, with a place for some of the absent numbers.
 pub trait Register {
+    ghost known: { Self → Registered };
+
     // The point with this number, or nothing.
-    ghost look: { Self → ℕ → Opt MeterPoint };
-
-    // Whether the number is absent and has a place.
-    ghost place: { Self → ℕ → Bool };
-
     fn read(&self, number: u64) -> Option<Point>
-        ensures value { result ≡ look self.now number }
+        ensures value { result ≡ (known self.now).look number }
         ensures named { IfSome result (λ p. p.number ≡ number) };
 
     // The lowest point at or above the number.
     fn lowest_from(&self, number: u64) -> Option<Point>
-        ensures { LowestFrom (look self.now) number result };
+        ensures { LowestFrom (known self.now).look number result };
 
+    // Whether the number is absent and has a place.
     fn has_place(&self, number: u64) -> bool
-        ensures value { result ≡ place self.now number }
-        ensures absent { result ≡ true → look self.now number ≡ None };
+        ensures value { result ≡ (known self.now).place number }
+        ensures absent { result ≡ true → (known self.now).look number ≡ None };
 
     // Joins a new point where its place exists; after that a place may be gone, but none appears.
-    fn add(&mut self, point: Point) -> bool
-        ensures value { result ≡ place self.old point.number }
-        ensures after { (k : ℕ) → look self.new k ≡ put_at result point (look self.old) k }
-        ensures shrinks { (k : ℕ) → place self.new k ≡ true → place self.old k ≡ true }
-        ensures refused { result ≡ false → (k : ℕ) → place self.new k ≡ place self.old k };
+    fn add(&mut self, point: Point) -> Result<(), AddError>
+        ensures value { result ≡ addition ((known self.old).look point.number) ((known self.old).place point.number) }
+        ensures after { (k : ℕ) → (known self.new).look k ≡ put_at (is_ok result) point (known self.old).look k }
+        ensures shrinks { (k : ℕ) → (known self.new).place k ≡ true → (known self.old).place k ≡ true }
+        ensures refused { is_ok result ≡ false → (k : ℕ) → (known self.new).place k ≡ (known self.old).place k };
 
     // Puts the point in the place of the one of its number; an absent number is refused.
-    fn replace(&mut self, point: Point) -> bool
-        ensures value { result ≡ is_some (look self.old point.number) }
-        ensures after { (k : ℕ) → look self.new k ≡ put_at result point (look self.old) k }
-        ensures same { (k : ℕ) → place self.new k ≡ place self.old k };
+    fn replace(&mut self, point: Point) -> Result<(), Absent>
+        ensures value { is_ok result ≡ is_some ((known self.old).look point.number) }
+        ensures after { (k : ℕ) → (known self.new).look k ≡ put_at (is_ok result) point (known self.old).look k }
+        ensures same { (k : ℕ) → (known self.new).place k ≡ (known self.old).place k };
 }
 
 // A set of working days.
@@ -54,46 +51,90 @@ pub trait Calendar {
 
 // Waiting notices, a count of free places and a fixed size. How many places a taking frees is open.
 pub trait Outbox {
-    // The waiting notices, the oldest first.
-    ghost waiting: { Self → List Notified };
-
-    ghost room: { Self → ℕ };
-
-    ghost size: { Self → ℕ };
+    ghost queue: { Self → Queue };
 
     // How many places are free.
     fn free(&self) -> usize
-        ensures value { result ≡ room self.now }
-        ensures empty { waiting self.now ≡ [] → room self.now ≡ size self.now };
+        ensures value { result ≡ (queue self.now).room }
+        ensures empty { (queue self.now).waiting ≡ [] → (queue self.now).room ≡ (queue self.now).size };
 
-    fn put(&mut self, notice: Notice) -> bool
-        ensures value { result ≡ nat_lt 0 (room self.old) }
-        ensures after { waiting self.new ≡ (if result then waiting self.old ++ notice ∷ [] else waiting self.old) }
-        ensures left { room self.new ≡ room self.old - 1 }
-        ensures size { size self.new ≡ size self.old };
+    // Puts the notice at the end, where a place is free.
+    fn put(&mut self, notice: Notice) -> Result<(), OutboxFull>
+        ensures value { is_ok result ≡ nat_lt 0 (queue self.old).room }
+        ensures after { (queue self.new).waiting ≡ (if is_ok result then (queue self.old).waiting ++ notice ∷ [] else (queue self.old).waiting) }
+        ensures left { (queue self.new).room ≡ (queue self.old).room - 1 }
+        ensures size { (queue self.new).size ≡ (queue self.old).size };
 
+    // Hands out the oldest notice, or nothing where none waits.
     fn take(&mut self) -> Option<Notice>
-        ensures value { result ≡ oldest (waiting self.old) }
-        ensures after { waiting self.new ≡ others (waiting self.old) }
-        ensures left { room self.old ≤ room self.new }
-        ensures empty { waiting self.new ≡ [] → room self.new ≡ size self.new }
-        ensures size { size self.new ≡ size self.old };
+        ensures value { result ≡ oldest (queue self.old).waiting }
+        ensures after { (queue self.new).waiting ≡ others (queue self.old).waiting }
+        ensures left { (queue self.old).room ≤ (queue self.new).room }
+        ensures empty { (queue self.new).waiting ≡ [] → (queue self.new).room ≡ (queue self.new).size }
+        ensures size { (queue self.new).size ≡ (queue self.old).size };
 }
 
 // Parties in roles, and which shippers ship for which suppliers.
 pub trait Directory {
-    ghost qualified: { Self → ℕ → InRole → Bool };
-
-    ghost sanctioned: { Self → ℕ → InRole → Bool };
-
-    ghost linked: { Self → ℕ → ℕ → Bool };
+    ghost parties: { Self → Parties };
 
     fn is_qualified(&self, party: u16, role: Role) -> bool
-        ensures { result ≡ qualified self.now party role };
+        ensures { result ≡ (parties self.now).qualified party role };
 
     fn is_sanctioned(&self, party: u16, role: Role) -> bool
-        ensures { result ≡ sanctioned self.now party role };
+        ensures { result ≡ (parties self.now).sanctioned party role };
 
     fn is_linked(&self, supplier: u16, shipper: u16) -> bool
-        ensures { result ≡ linked self.now supplier shipper };
+        ensures { result ≡ (parties self.now).linked supplier shipper };
+}
+
+// A register that is lent serves as one.
+impl<R: Register> Register for &mut R {
+    ghost known = { λ s. R.known s.now };
+
+    fn read(&self, number: u64) -> Option<Point> {
+        (**self).read(number)
+    }
+
+    fn lowest_from(&self, number: u64) -> Option<Point> {
+        (**self).lowest_from(number)
+    }
+
+    fn has_place(&self, number: u64) -> bool {
+        (**self).has_place(number)
+    }
+
+    fn add(&mut self, point: Point) -> Result<(), AddError> {
+        (**self).add(point)
+    }
+
+    fn replace(&mut self, point: Point) -> Result<(), Absent> {
+        (**self).replace(point)
+    }
+}
+
+// A calendar that is lent serves as one.
+impl<C: Calendar> Calendar for &C {
+    ghost works = { λ s. C.works s.now };
+
+    fn works(&self, day: u32) -> bool {
+        (**self).works(day)
+    }
+}
+
+// An outbox that is lent serves as one.
+impl<O: Outbox> Outbox for &mut O {
+    ghost queue = { λ s. O.queue s.now };
+
+    fn free(&self) -> usize {
+        (**self).free()
+    }
+
+    fn put(&mut self, notice: Notice) -> Result<(), OutboxFull> {
+        (**self).put(notice)
+    }
+
+    fn take(&mut self) -> Option<Notice> {
+        (**self).take()
+    }
 }
