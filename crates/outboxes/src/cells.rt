@@ -1,14 +1,16 @@
-// Lent bytes as places for notices, sixteen bytes for each.
-ghost use Rattle.std.specs.Prelude.{◌≡◌, ◌+◌, ◌/◌, ◌<◌, ◌≤◌, ◌++◌, length, take, drop, slice_set};
-ghost use Rattle.outboxes.specs.Records.{record_at, records};
+// Lent bytes as places for notices, sixteen bytes for each; what is left over at the end belongs to none.
+ghost use Rattle.std.specs.Prelude.{◌≡◌, ◌+◌, ◌*◌, ◌/◌, ◌<◌, ◌≤◌, ◌++◌, length, take, drop, slice_set};
+ghost use Rattle.market.specs.Codes.{bytes_of};
+ghost use Rattle.outboxes.specs.Records.{records};
 
+use crate::places::Places;
 use market::Notice;
 
 // How many bytes a notice takes.
 const WIDTH: usize = 16;
 
 #[derive(Drop)]
-pub(crate) struct Cells<'a> {
+pub struct Cells<'a> {
     bytes: &'a mut [u8],
 }
 
@@ -18,18 +20,17 @@ impl<'a> Cells<'a> {
     {
         Cells { bytes }
     }
+}
 
-    // How many places there are.
-    pub(crate) fn size(&self) -> usize
-        ensures { result ≡ length self.now.bytes.now / 16 }
-    {
+#[tactic(auto, using(crate::proofs::Written::cells))]
+impl<'a> Places for Cells<'a> {
+    ghost notices = { λ s. records s.bytes.now };
+
+    fn len(&self) -> usize {
         self.bytes.len() / WIDTH
     }
 
-    pub(crate) fn read(&self, place: usize) -> Notice
-        requires { place < length self.now.bytes.now / 16 }
-        ensures { result ≡ record_at self.now.bytes.now place }
-    {
+    fn get(&self, place: usize) -> Notice {
         let bytes = &*self.bytes;
         let start = WIDTH * place;
         let mut code = [0; WIDTH];
@@ -37,20 +38,14 @@ impl<'a> Cells<'a> {
         Notice::read(code)
     }
 
-    pub(crate) fn write(&mut self, place: usize, notice: Notice)
-        requires { place < length self.old.bytes.now / 16 }
-        ensures holds { records self.new.bytes.now ≡ slice_set (records self.old.bytes.now) place notice }
-        ensures size { length self.new.bytes.now ≡ length self.old.bytes.now }
+    // Its sixteen bytes stand between those before and those after, which stay.
+    fn set(&mut self, place: usize, notice: Notice)
+        requires { place < length (records self.old.bytes.now) }
+        ensures notices { records self.new.bytes.now ≡ slice_set (records self.old.bytes.now) place notice }
+        ensures bytes { self.new.bytes.now ≡ take (16 * place) self.old.bytes.now ++ (bytes_of notice ++ drop (16 * place + 16) self.old.bytes.now) }
     {
-        overwrite(self.bytes, WIDTH * place, &notice.to_bytes());
+        let start = WIDTH * place;
+        let code = <[u8; WIDTH]>::from(notice);
+        self.bytes[start..start + WIDTH].copy_from_slice(&code);
     }
-}
-
-// Puts the code over the bytes from `start` on.
-fn overwrite(bytes: &mut [u8], start: usize, code: &[u8])
-    requires { start + length code.now ≤ length bytes.old }
-    ensures { bytes.new ≡ take start bytes.old ++ (code.now ++ drop (start + length code.now) bytes.old) }
-{
-    let end = start + code.len();
-    bytes[start..end].copy_from_slice(code);
 }

@@ -4,6 +4,9 @@
 mod cells;
 pub mod places;
 pub mod rings;
+mod slots;
 
-pub use places::PlaceRing;
-pub use rings::ByteRing;
+pub use cells::Cells;
+pub use places::Places;
+pub use rings::{ByteRing, PlaceRing, Ring};
+pub use slots::Slots;

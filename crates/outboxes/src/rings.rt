@@ -1,77 +1,103 @@
-// An outbox over lent bytes, used as a ring of places.
-ghost use Rattle.std.specs.Prelude.{◌≡◌, ◌-◌, ◌/◌, ◌≤◌, [], length};
+// An outbox over places, used as a ring.
+ghost use Rattle.std.specs.Prelude.{◌≡◌, ◌+◌, ◌-◌, ◌%◌, ◌/◌, ◌<◌, ◌≤◌, length};
 ghost use Rattle.outboxes.specs.Records.{records};
-ghost use Rattle.outboxes.specs.Rings.{ring};
+ghost use Rattle.outboxes.specs.Rings.{queue_of, empty};
 
 use crate::cells::Cells;
-use market::{Notice, Outbox};
+use crate::places::Places;
+use crate::slots::Slots;
+use market::{Notice, Outbox, OutboxFull};
 
-// `count` notices wait, from the place `first` on and round at the end.
+// `count` notices wait, from the place `first` on and round at the end. What the other places hold does
+// not matter. No heap here: the memory is what the caller lends.
 #[derive(Drop)]
-pub struct ByteRing<'a> {
-    cells: Cells<'a>,
+pub struct Ring<P: Places> {
+    places: P,
     first: usize,
     count: usize,
-    ghost start: { first ≤ length cells.bytes.now / 16 },
-    ghost fits: { count ≤ length cells.bytes.now / 16 },
+    ghost start: { first ≤ length (P.notices places) - 1 },
+    ghost fits: { count ≤ length (P.notices places) },
 }
 
-impl<'a> ByteRing<'a> {
-    // An empty outbox with a place for each sixteen bytes.
-    pub fn new(bytes: &'a mut [u8]) -> Self
-        ensures waits { ring (records result.cells.bytes.now) result.first result.count ≡ [] }
-        ensures room { length result.cells.bytes.now / 16 - result.count ≡ length bytes.old / 16 }
-        ensures size { length result.cells.bytes.now / 16 ≡ length bytes.old / 16 }
+pub type PlaceRing<'a> = Ring<Slots<'a>>;
+
+pub type ByteRing<'a> = Ring<Cells<'a>>;
+
+impl<P: Places> Ring<P> {
+    // An empty outbox with all the places; with none it refuses every notice.
+    pub fn over(places: P) -> Self
+        ensures { queue_of (P.notices result.places) result.first result.count ≡ empty (length (P.notices places)) }
     {
-        let cells = Cells::new(bytes);
-        ByteRing {
-            cells,
+        Ring {
+            places,
             first: 0,
             count: 0,
         }
     }
+
+    // The place so many places after the first, and round at the end.
+    fn place(&self, after: usize) -> usize
+        requires some { 0 < length (P.notices self.now.places) }
+        requires within { after ≤ length (P.notices self.now.places) }
+        ensures { result ≡ (self.now.first + after) % length (P.notices self.now.places) }
+    {
+        // How many places there are before the ring turns.
+        let ahead = self.places.len() - self.first;
+        if after < ahead {
+            self.first + after
+        } else {
+            after - ahead
+        }
+    }
 }
 
-impl<'a> Outbox for ByteRing<'a> {
-    ghost waiting = { λ s. ring (records s.cells.bytes.now) s.first s.count };
+impl<'a> Ring<Slots<'a>> {
+    // An empty outbox with a place for each of the notices.
+    pub fn new(notices: &'a mut [Notice]) -> Self
+        ensures { queue_of result.places.places.now result.first result.count ≡ empty (length notices.old) }
+    {
+        Ring::over(Slots::new(notices))
+    }
+}
 
-    ghost room = { λ s. length s.cells.bytes.now / 16 - s.count };
+impl<'a> Ring<Cells<'a>> {
+    // An empty outbox with a place for each sixteen bytes.
+    #[tactic(auto, using(crate::proofs::Written::records_count))]
+    pub fn new(bytes: &'a mut [u8]) -> Self
+        ensures { queue_of (records result.places.bytes.now) result.first result.count ≡ empty (length bytes.old / 16) }
+    {
+        Ring::over(Cells::new(bytes))
+    }
+}
 
-    ghost size = { λ s. length s.cells.bytes.now / 16 };
+impl<P: Places> Outbox for Ring<P> {
+    ghost queue = { λ s. queue_of (P.notices s.places) s.first s.count };
 
     fn free(&self) -> usize {
-        self.cells.size() - self.count
+        self.places.len() - self.count
     }
 
-    fn put(&mut self, notice: Notice) -> bool {
-        let size = self.cells.size();
+    #[tactic(auto, using(crate::proofs::Rolls::ring_put))]
+    fn put(&mut self, notice: Notice) -> Result<(), OutboxFull> {
+        let size = self.places.len();
         let count = self.count;
         if count >= size {
-            return false;
+            return Err(OutboxFull);
         }
-        let ahead = size - self.first;
-        let at = if count < ahead {
-            self.first + count
-        } else {
-            count - ahead
-        };
-        self.cells.write(at, notice);
+        let at = self.place(count);
+        self.places.set(at, notice);
         self.count = count + 1;
-        true
+        Ok(())
     }
 
+    #[tactic(auto, using(crate::proofs::Rolls::ring_take))]
     fn take(&mut self) -> Option<Notice> {
         let count = self.count;
         if count == 0 {
             return None;
         }
-        let at = if self.first < self.cells.size() {
-            self.first
-        } else {
-            0
-        };
-        let notice = self.cells.read(at);
-        self.first = at + 1;
+        let notice = self.places.get(self.first);
+        self.first = self.place(1);
         self.count = count - 1;
         Some(notice)
     }
