@@ -1,10 +1,7 @@
 -- Days by number, day 0 a Monday, and which of them work.
-use Rattle.std.specs.Prelude.{ℕ, ◌%◌, Bool, false, not, ◌&&◌, ◌||◌, List, [], ◌∷◌, ◌==◌, nat_lt}
-
-abbrev pub has : ℕ → List ℕ → Bool
-has d [] = false
-has d (x ∷ xs) = x == d || has d xs
+use Rattle.std.specs.Prelude.{ℕ, ◌%◌, Bool, not, ◌&&◌, List, ◌==◌, nat_lt}
+use Rattle.std.specs.List.{list_any}
 
 -- Monday to Friday, except the holidays
 abbrev pub weekday : List ℕ → ℕ → Bool
-weekday holidays d = nat_lt (d % 7) 5 && not (has d holidays)
+weekday holidays d = nat_lt (d % 7) 5 && not (list_any (λ holiday. holiday == d) holidays)

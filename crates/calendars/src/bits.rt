@@ -7,7 +7,7 @@ const DAYS_A_BYTE: u32 = 8;
 
 // A day works if its bit is set: the first byte has days 0 to 7, the lowest bit being day 0. Days past the
 // bytes do not work.
-#[derive(Clone, Copy)]
+#[derive(Clone, Copy, Debug, PartialEq, Eq)]
 pub struct Bits<'a> {
     pub bytes: &'a [u8],
 }
@@ -17,9 +17,8 @@ impl<'a> Calendar for Bits<'a> {
 
     fn works(&self, day: u32) -> bool {
         let at = (day / DAYS_A_BYTE) as usize;
-        if at >= self.bytes.len() {
-            return false;
-        }
-        (self.bytes[at] >> (day % DAYS_A_BYTE)) % 2 == 1
+        self.bytes
+            .get(at)
+            .is_some_and(|byte| (byte >> (day % DAYS_A_BYTE)) % 2 == 1)
     }
 }

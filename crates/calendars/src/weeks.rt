@@ -8,7 +8,7 @@ const DAYS_A_WEEK: u32 = 7;
 const WORKING_DAYS: u32 = 5;
 
 // Monday to Friday work, except the holidays, which may come in any order.
-#[derive(Clone, Copy)]
+#[derive(Clone, Copy, Debug, PartialEq, Eq)]
 pub struct Week<'a> {
     pub holidays: &'a [u32],
 }

@@ -15,9 +15,6 @@ module _ {X : Type 0} (xs : List X) (f : ℕ) (start : f ≤ length xs) where
       let d = length-drop f xs in
       let t = length-take-le f xs start in omega arith
 
-  pub length-ring : (c : ℕ) → c ≤ length xs → length (ring xs f c) ≡ c
-  length-ring c l = let r = length-rolled in length-take-le c (rolled xs f) (omega arith)
-
   -- where the next one goes
   rolled-set : (c : ℕ) (v : X) → c < length xs → rolled (set xs ((f + c) % length xs) v) f ≡ set (rolled xs f) c v
   rolled-set c v l =

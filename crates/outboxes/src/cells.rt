@@ -1,7 +1,7 @@
 // Lent bytes as places for notices, sixteen bytes for each; what is left over at the end belongs to none.
-ghost use Rattle.std.specs.Prelude.{◌≡◌, ◌+◌, ◌*◌, ◌/◌, ◌<◌, ◌≤◌, ◌++◌, length, take, drop, slice_set};
+ghost use Rattle.std.specs.Prelude.{◌≡◌, ◌<◌, length, slice_set};
 ghost use Rattle.market.specs.Codes.{bytes_of};
-ghost use Rattle.outboxes.specs.Records.{records};
+ghost use Rattle.outboxes.specs.Records.{records, with_code};
 
 use crate::places::Places;
 use market::Notice;
@@ -42,7 +42,7 @@ impl<'a> Places for Cells<'a> {
     fn set(&mut self, place: usize, notice: Notice)
         requires { place < length (records self.old.bytes.now) }
         ensures notices { records self.new.bytes.now ≡ slice_set (records self.old.bytes.now) place notice }
-        ensures bytes { self.new.bytes.now ≡ take (16 * place) self.old.bytes.now ++ (bytes_of notice ++ drop (16 * place + 16) self.old.bytes.now) }
+        ensures bytes { self.new.bytes.now ≡ with_code self.old.bytes.now place (bytes_of notice) }
     {
         let start = WIDTH * place;
         let code = <[u8; WIDTH]>::from(notice);

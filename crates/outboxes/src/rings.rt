@@ -19,8 +19,10 @@ pub struct Ring<P: Places> {
     ghost fits: { count ≤ length (P.notices places) },
 }
 
+// An outbox over lent notices.
 pub type PlaceRing<'a> = Ring<Slots<'a>>;
 
+// An outbox over lent bytes.
 pub type ByteRing<'a> = Ring<Cells<'a>>;
 
 impl<P: Places> Ring<P> {
@@ -79,26 +81,21 @@ impl<P: Places> Outbox for Ring<P> {
 
     #[tactic(auto, using(crate::proofs::Rolls::ring_put))]
     fn put(&mut self, notice: Notice) -> Result<(), OutboxFull> {
-        let size = self.places.len();
-        let count = self.count;
-        if count >= size {
+        if self.count >= self.places.len() {
             return Err(OutboxFull);
         }
-        let at = self.place(count);
+        let at = self.place(self.count);
         self.places.set(at, notice);
-        self.count = count + 1;
+        self.count += 1;
         Ok(())
     }
 
     #[tactic(auto, using(crate::proofs::Rolls::ring_take))]
     fn take(&mut self) -> Option<Notice> {
-        let count = self.count;
-        if count == 0 {
-            return None;
-        }
+        let left = self.count.checked_sub(1)?;
         let notice = self.places.get(self.first);
         self.first = self.place(1);
-        self.count = count - 1;
+        self.count = left;
         Some(notice)
     }
 }
