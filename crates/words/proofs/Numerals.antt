@@ -1,27 +1,32 @@
 -- A word's digits, read from the left, write the number that the places' weights give.
-use Rattle.std.proofs.Common.{◌≡◌, ℕ, ◌^◌, ◌<◌, ◌≤◌, true, false, ◌&&◌, ltb, leb, List, length, get_or, Some, None, ap, ◌∙◌, ⊎_elim, rules}
+use Rattle.std.proofs.Common.{◌≡◌, ℕ, ◌*◌, ◌+◌, ◌-◌, ◌^◌, ◌<◌, ◌≤◌, true, List, length, take, get_or, Some, None, ap, ◌∙◌, arith, rules}
+use Rattle.std.specs.Char.{is_ascii_digit}
+use Rattle.std.specs.List.{list_all}
 use Rattle.std.specs.Str.Parse.{digits_value, AllDigits}
-use Rattle.std.specs.Int.{IsInRange}
-use Rattle.std.proofs.lemmas.Str.Parse.{IsNumeralModel, numerals_by_weight, numerals_by_value, tells_digits, digit_at, digits_value_short}
-use Rattle.std.proofs.lemmas.Bool.{cases_Bool, lt-ltb, le-leb, and_from, and_right, cond-true, cond-false}
-use Rattle.words.specs.Numbers.{digits, weighed, numeral}
+use Rattle.std.proofs.lemmas.Bool.{cond-true}
+use Rattle.std.proofs.lemmas.Bool.Decides.{nat_tests}
+use Rattle.std.proofs.lemmas.Int.Digits.{digits_value_more}
+use Rattle.std.proofs.lemmas.Str.{digit_value_digit}
+use Rattle.std.proofs.lemmas.Str.Parse.{IsNumeralModel, numerals_by_weight, digit_at, digits_value_short, digits_value-take-le}
+use Rattle.words.specs.Numbers.{is_numeral, numeral, weighed}
 
-pub own : IsNumeralModel (λ ds. digits ds ≡ true) weighed
+own : IsNumeralModel (λ w. list_all is_ascii_digit w ≡ true) weighed
 own = numerals_by_weight _ (search rules) weighed (search rules)
 
-pub theirs : IsNumeralModel (AllDigits 10) (digits_value 10)
-theirs = numerals_by_value (AllDigits 10) tells_digits
+module _ (w : List ℕ) (is : is_numeral w ≡ true) where
+  short : length w ≤ 13
+  short = grind (arith, nat_tests)
 
-pub small : (w : List ℕ) (k : ℕ) → AllDigits 10 w → length w ≤ k → digits_value 10 w < 10 ^ k
-small w k d h = digits_value_short theirs w k d h
+  all : list_all is_ascii_digit w ≡ true
+  all = grind (arith, nat_tests)
 
-pub good : (w : List ℕ) → 0 < length w → length w ≤ 13 → AllDigits 10 w → numeral w ≡ Some (digits_value 10 w)
-good w some short d =
-    cond-true (ltb 0 (length w) && leb (length w) 13 && digits w) (Some (weighed w)) None
-    (and_from _ _ (and_from _ _ (lt-ltb 0 (length w) some) (le-leb (length w) 13 short)) (own.from w d))
-    ∙ ap Some (own.same w d)
+  pub written : numeral w ≡ Some (digits_value 10 w)
+  written = cond-true (is_numeral w) (Some (weighed w)) None is ∙ ap Some (own.same w (own.to w all))
 
-pub bad : (w : List ℕ) (i : ℕ) → i < length w → (IsInRange 48 57 (get_or w i 0) → ⊥) → numeral w ≡ None
-bad w i h out =
-    let not_digits : digits w ≡ false = ⊎_elim (λ e. absurd (out (digit_at w i (own.to w e) h))) (λ e. e) (cases_Bool (digits w)) in
-    cond-false (ltb 0 (length w) && leb (length w) 13 && digits w) (Some (weighed w)) None (and_right _ _ not_digits)
+  pub bound : (i : ℕ) → digits_value 10 (take i w) < 10 ^ 13
+  bound i = omega (arith, digits_value-take-le 10 w i (omega arith), digits_value_short own w 13 all short, own.same w (own.to w all))
+
+  pub one_more : (i : ℕ) → i < length w → digits_value 10 (take i w) * 10 + (get_or w i 0 - 48) ≡ digits_value 10 (take (i + 1) w)
+  one_more i lt =
+      let digit = digit_value_digit _ (digit_at w i (own.to w all) lt) in
+      omega (arith, digits_value_more 10 w i lt, digit)

@@ -6,13 +6,13 @@ ghost use Rattle.words.specs.Faults.{fault_number, fault_field, line_fault_of};
 
 use std::fmt;
 
-#[derive(Clone, Copy, PartialEq, Eq)]
+#[derive(Clone, Copy, Debug, PartialEq, Eq)]
 pub enum FieldFault {
     // Not 1 to 13 digits. `place` counts a line's fields from 1.
     NotANumber { place: usize },
 }
 
-#[derive(Clone, Copy, PartialEq, Eq)]
+#[derive(Clone, Copy, Debug, PartialEq, Eq)]
 pub enum LineFault {
     TooLong,
     UnknownWord,
@@ -20,7 +20,7 @@ pub enum LineFault {
     Field(FieldFault),
 }
 
-#[derive(Clone, Copy)]
+#[derive(Clone, Copy, Debug, PartialEq, Eq)]
 pub enum FeedFault {
     Line(LineFault),
 }
@@ -54,7 +54,8 @@ impl LineFault {
         }
     }
 
-    // The place of the field that is at fault, or 0 where it is the line as a whole.
+    // The place of the field that is at fault. A fault of the whole line is printed with 0 in this
+    // place, which counts no field.
     pub fn field(self) -> usize
         ensures { result ≡ fault_field self }
     {
@@ -66,7 +67,7 @@ impl LineFault {
 }
 
 // A fault with the number of its line, from 1.
-#[derive(Clone, Copy)]
+#[derive(Clone, Copy, Debug, PartialEq, Eq)]
 pub struct FaultReport {
     pub line: u64,
     pub fault: FeedFault,
@@ -76,10 +77,13 @@ impl fmt::Display for FaultReport {
     ghost output = { λ x. Some (codes "line " ++ (decimal x.line ++ (codes " fault " ++ (decimal (fault_number (line_fault_of x.fault)) ++ (codes " field " ++ decimal (fault_field (line_fault_of x.fault))))))) };
 
     fn fmt<W: fmt::Write>(&self, f: &mut fmt::Formatter<W>) -> fmt::Result {
-        let line = self.line;
         let FeedFault::Line(fault) = self.fault;
-        let number = fault.number();
-        let field = fault.field();
-        write!(f, "line {line} fault {number} field {field}")
+        write!(
+            f,
+            "line {} fault {} field {}",
+            self.line,
+            fault.number(),
+            fault.field()
+        )
     }
 }
