@@ -24,18 +24,14 @@ pub fn decode(line: &[u8]) -> Result<Command, LineFault>
         return Err(LineFault::TooLong);
     }
     let mut reader = Reader::over(line);
-    let Some((word, _)) = reader.step() else {
-        return Err(LineFault::UnknownWord);
-    };
-    let Some(verb) = Verb::from_name(word.text) else {
-        return Err(LineFault::UnknownWord);
-    };
+    let (word, _) = reader.step().ok_or(LineFault::UnknownWord)?;
+    let verb = Verb::from_name(word.text).ok_or(LineFault::UnknownWord)?;
     command(verb, reader)
 }
 
 // The command that the verb gives with the fields that are left.
 fn command(verb: Verb, reader: Reader<'_>) -> Result<Command, LineFault>
-    ensures { result ≡ command_of verb (left reader.entry.line.now reader.entry.at reader.entry.more) }
+    ensures { result ≡ command_of verb (left reader.entry.line.now reader.entry.at) }
 {
     match verb {
         Verb::Party => {
@@ -81,19 +77,16 @@ fn command(verb: Verb, reader: Reader<'_>) -> Result<Command, LineFault>
 }
 
 // The numbers of exactly `N` fields.
-fn fields<const N: usize>(reader: Reader<'_>) -> Result<[u64; N], LineFault>
-    ensures { result ≡ fields_of N (left reader.entry.line.now reader.entry.at reader.entry.more) }
+fn fields<const N: usize>(mut reader: Reader<'_>) -> Result<[u64; N], LineFault>
+    ensures { result ≡ fields_of N (left reader.entry.line.now reader.entry.at) }
 {
-    let mut reader = reader;
     if !reader.has_left(N) {
         return Err(LineFault::WrongCount);
     }
     let mut numbers = [0u64; N];
-    for i in 0..N {
-        let Some((word, _)) = reader.step() else {
-            return Err(LineFault::WrongCount);
-        };
-        numbers[i] = number(word.text, i + 1)?;
+    for (i, slot) in numbers.iter_mut().enumerate() {
+        let (word, _) = reader.step().ok_or(LineFault::WrongCount)?;
+        *slot = number(word.text, i + 1)?;
     }
     Ok(numbers)
 }

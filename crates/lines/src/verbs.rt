@@ -3,7 +3,7 @@ ghost use Rattle.std.specs.Prelude.{◌≡◌, MatchOption, ◌≢◌};
 ghost use Rattle.lines.specs.declared.verbs.Verb.{Verb as Word};
 ghost use Rattle.lines.specs.Verbs.{name_of};
 
-#[derive(Clone, Copy)]
+#[derive(Clone, Copy, Debug, PartialEq, Eq)]
 pub(crate) enum Verb {
     Party,
     Link,

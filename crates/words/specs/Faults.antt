@@ -16,6 +16,7 @@ fault_number TooLong = 24
 abbrev pub field_place : FieldFault → ℕ
 field_place (NotANumber i) = i
 
+-- a fault of the whole line is printed with field 0
 abbrev pub fault_field : LineFault → ℕ
 fault_field (Field f) = field_place f
 fault_field UnknownWord = 0

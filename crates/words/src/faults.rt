@@ -54,8 +54,7 @@ impl LineFault {
         }
     }
 
-    // The place of the field that is at fault. A fault of the whole line is printed with 0 in this
-    // place, which counts no field.
+    // The place of the field that is at fault. A fault of the whole line is printed with field 0.
     pub fn field(self) -> usize
         ensures { result ≡ fault_field self }
     {

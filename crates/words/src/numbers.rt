@@ -16,6 +16,7 @@ fn is_numeral(word: &[u8]) -> bool
 }
 
 // The number that the word writes; `place` is the field's place on its line, from 1.
+#[tactic(auto, using(crate::proofs::Numerals::reading))]
 pub fn number(word: &[u8], place: usize) -> Result<u64, FieldFault>
     ensures { result ≡ ok_or (numeral word.now) (FieldFault.NotANumber place) }
 {

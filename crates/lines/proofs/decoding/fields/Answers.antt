@@ -1,4 +1,4 @@
-use Rattle.std.proofs.Common.{◌≡◌, ℕ, Bool, true, eqb, sym, refl, ◌∙◌, arith}
+use Rattle.std.proofs.Common.{◌≡◌, ℕ, Bool, true, eqb, sym, refl, ap, ◌∙◌, arith, length}
 use lib.ListN.{length-replicate}
 use Rattle.std.proofs.lemmas.Result.{err_from_is_err_and}
 use Rattle.std.proofs.lemmas.Bool.{eqb-true}
@@ -14,14 +14,22 @@ loop-i-init g c =
     let long = right _ _ _ c.has_left.ensures c.if-not-has_left.false in
     record { long = omega arith; room = length-replicate g.row.N _; good = refl; read = refl }
 
-pub returns-in_err-numbers : goal.returns-in_err-numbers
-returns-in_err-numbers g c =
-    let p = err_from_is_err_and c.from_residual.result c.from_residual.ensures.1 in
-    let f = failed _ _ _ _ _ _ _ _ c.loop-i.invariant c.in-Some.ensures.words c.in_err-numbers.ensures (right _ _ _ c.has_left.ensures c.if-not-has_left.false) in
+pub returns-in_err-word : goal.returns-in_err-word
+returns-in_err-word g c =
+    let none = rw c.in_err-word.ensures.ok_part at c.step.ensures.none in
+    absurd (omega (arith, ap length none, c.loop-i.invariant.long, c.loop-i-test.true))
+
+pub returns-in_err-slot : goal.returns-in_err-slot
+returns-in_err-slot g c =
+    let p = err_from_is_err_and c.from_residual-in_err-slot.result c.from_residual-in_err-slot.ensures.1 in
+    let words = rw c.in_ok-word.ensures.ok_part at c.step.ensures.words in
+    let f = failed _ _ _ _ _ _ _ _ c.loop-i.invariant words c.in_err-slot.ensures (right _ _ _ c.has_left.ensures c.if-not-has_left.false) in
     rw (p.1, p.2) (sym f)
 
 pub loop-i-preserved : goal.loop-i-preserved
-loop-i-preserved g c = turn _ _ _ _ _ _ _ _ _ c.loop-i.invariant c.loop-i-test.true c.in-Some.ensures.words c.in_ok-numbers.ensures
+loop-i-preserved g c =
+    let words = rw c.in_ok-word.ensures.ok_part at c.step.ensures.words in
+    turn _ _ _ _ _ _ _ _ _ c.loop-i.invariant c.loop-i-test.true words c.in_ok-slot.ensures
 
 pub returns : goal.returns
 returns g c = done _ _ _ _ _ c.loop-i.invariant c.loop-i-test.false (right _ _ _ c.has_left.ensures c.if-not-has_left.false)
