@@ -16,20 +16,25 @@ first_is_space s end found =
     let at = cond_some _ _ _ (sym found) in
     slice_split_first (λ b. b == 32) s 0 (ltb-true _ _ at.0) ∙ ap (λ n. take n s ∷ words (drop (n + 1) s)) at.1
 
+-- what a slice from `place` on holds
+abbrev rest : List ℕ → ℕ → List ℕ
+rest line place = take (length line - place) (drop place line)
+
 -- where a reader at `at` stands at a word
 module _ (line : List ℕ) (at : Option ℕ) (place : ℕ) (is : at ≡ Some place) where
-  rest : take (length line - place) (drop place line) ≡ drop place line
-  rest = take_all (length line - place) (drop place line) (omega (arith, length-drop place line))
+  rest_is : rest line place ≡ drop place line
+  rest_is = take_all (length line - place) (drop place line) (omega (arith, length-drop place line))
 
-  here : left line at ≡ words (take (length line - place) (drop place line))
-  here = ap (left line) is ∙ ap words (sym rest)
+  here : left line at ≡ words (rest line place)
+  here = ap (left line) is ∙ ap words (sym rest_is)
+
+  after : (end : ℕ) → drop (end + 1) (rest line place) ≡ drop (place + end + 1) line
+  after end = ap (drop (end + 1)) rest_is ∙ drop-drop (end + 1) place line ∙ ap (λ k. drop k line) (omega arith)
 
   -- no space is left
-  pub last : None ≡ position (λ b. b == 32) (take (length line - place) (drop place line)) → left line at ≡ take (length line - place) (drop place line) ∷ []
+  pub last : None ≡ position (λ b. b == 32) (rest line place) → left line at ≡ rest line place ∷ []
   last none = here ∙ none_is_space _ none
 
   -- the first space stands `end` bytes on
-  pub next : (end : ℕ) → Some end ≡ position (λ b. b == 32) (take (length line - place) (drop place line)) → left line at ≡ take end (take (length line - place) (drop place line)) ∷ words (drop (place + end + 1) line)
-  next end found =
-      here ∙ first_is_space _ end found
-      ∙ ap (λ after. take end (take (length line - place) (drop place line)) ∷ words after) (ap (drop (end + 1)) rest ∙ drop-drop (end + 1) place line ∙ ap (λ k. drop k line) (omega arith))
+  pub next : (end : ℕ) → Some end ≡ position (λ b. b == 32) (rest line place) → left line at ≡ take end (rest line place) ∷ words (drop (place + end + 1) line)
+  next end found = here ∙ first_is_space _ end found ∙ ap (λ bytes. take end (rest line place) ∷ words bytes) (after end)
