@@ -3,4 +3,5 @@ pub mod Refusals
 pub mod Stores
 pub mod Looks
 pub mod Waits
+pub mod Blanks
 pub mod Codes

@@ -2,6 +2,7 @@
 ghost use Rattle.std.specs.Prelude.{◌≡◌, Decides, MatchResult, ◌≢◌};
 ghost use Rattle.market.specs.declared.notices.Notice.{Notice as Notified};
 ghost use Rattle.market.specs.declared.refusals.Refusal.TheVariants as row;
+ghost use Rattle.market.specs.Blanks.{blank};
 ghost use Rattle.market.specs.Codes.{bytes_of, read_of, Valid};
 
 use crate::limits::{LAST_MOMENT, LAST_POINT};
@@ -20,6 +21,14 @@ impl Notice {
         kind: NoticeKind::Validated,
         role: Role::Gainer,
     };
+}
+
+impl Default for Notice {
+    ghost is_default = { λ notice. notice ≡ blank };
+
+    fn default() -> Notice {
+        Notice::BLANK
+    }
 }
 
 impl From<Notice> for [u8; 16] {

@@ -1,2 +1,1 @@
-mod Mailed
-pub mod Firsts
+pub mod Mailed

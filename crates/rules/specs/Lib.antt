@@ -2,6 +2,5 @@ pub mod Limits
 pub mod Steps
 pub mod Notices
 pub mod Rows
-pub mod Owing
 pub mod Changes
 pub mod Lists

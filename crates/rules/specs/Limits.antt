@@ -52,6 +52,12 @@ new_point n f d s = cond (is_point n && nat_le d 1 && nat_le s 3) (created_by n 
 abbrev pub party_or_none : ℕ → Option ℕ
 party_or_none n = cond (n == 0) None (Some n)
 
+abbrev pub party_of : ℕ → Option (Option ℕ)
+party_of n = cond (nat_le n 65535) (Some (party_or_none n)) None
+
+abbrev pub day_of : ℕ → Option ℕ
+day_of n = cond (is_day n) (Some n) None
+
 -- what the numbers of a request stand for
 abbrev pub asked_of : ℕ → ℕ → ℕ → ℕ → Option Asked
 asked_of p g s d = cond (is_point p && is_party g && nat_le s 65535 && is_day d) (Some (record { point = p; gainer = g; shipper = party_or_none s; start = d })) None

@@ -1,6 +1,5 @@
 -- The rows of the table of refusals that look at one point.
 use Rattle.std.specs.Prelude.{ℕ, ◌+◌, ◌/◌, ◌%◌, Bool, true, false, cond, not, ◌&&◌, ◌||◌, List, [], ◌∷◌, is_some, Some, None, Ok, Err, Option, Result, nat_le, nat_lt}
-use Rattle.market.specs.declared.notices.Role.{Role}
 use Rattle.market.specs.declared.notices.Role.TheVariants.{Gainer, GainingShipper}
 use Rattle.market.specs.declared.points.Fuel.{Fuel}
 use Rattle.market.specs.declared.points.Point.{Point}
@@ -8,6 +7,7 @@ use Rattle.market.specs.declared.points.Status.{Status}
 use Rattle.market.specs.declared.points.Status.TheVariants.{Created, Operational, Dormant, Terminated}
 use Rattle.market.specs.declared.refusals.Refusal.{Refusal}
 use Rattle.market.specs.declared.refusals.Refusal.TheVariants.{DayNotAllowed, NotQualified, Sanctioned, WrongForFuel, RequestPending, WrongRegistration, WrongStatus}
+use Rattle.market.specs.Stores.{Parties}
 use Rattle.rules.specs.declared.limits.Asked.{Asked}
 use Rattle.rules.specs.Notices.{at_gas}
 
@@ -28,15 +28,6 @@ first_of (r ∷ rs) = cond r.applies (Some r.refusal) (first_of rs)
 abbrev pub passing : Option Refusal → Result (Unit {0}) Refusal
 passing None = Ok tt
 passing (Some r) = Err r
-
--- what a directory says
-pub record Parties : Type 0 where
-  pub qualified : ℕ → Role → Bool
-  pub sanctioned : ℕ → Role → Bool
-  pub linked : ℕ → ℕ → Bool
-
-abbrev pub parties_of : {D : Type 0} → (D → ℕ → Role → Bool) → (D → ℕ → Role → Bool) → (D → ℕ → ℕ → Bool) → D → Parties
-parties_of q s l d = record { qualified = q d; sanctioned = s d; linked = l d }
 
 abbrev pub when_some : {X : Type 0} → Option X → (X → Bool) → Bool
 when_some None t = false

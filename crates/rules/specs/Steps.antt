@@ -1,5 +1,5 @@
 -- A point's next step, and the point after it.
-use Rattle.std.specs.Prelude.{ℕ, ◌+◌, ◌-◌, ◌*◌, Some, None, Option}
+use Rattle.std.specs.Prelude.{ℕ, ◌+◌, ◌-◌, ◌*◌, List, Some, None, Option, codes}
 use Rattle.std.specs.Option.{option_map}
 use Rattle.market.specs.declared.points.Point.{Point}
 use Rattle.market.specs.declared.points.Request.{Request}
@@ -89,3 +89,10 @@ turned Confirmed p = with_request (option_map (in_state state.Confirmed) p.reque
 turned Secured p = with_request (option_map (in_state state.Secured) p.request) p
 turned Completed p = completed p.request p
 turned Left p = left p
+
+-- a step's name in a reply
+abbrev pub turn_name : Turn → List ℕ
+turn_name Confirmed = codes "confirmed"
+turn_name Secured = codes "secured"
+turn_name Completed = codes "completed"
+turn_name Left = codes "left"

@@ -3,12 +3,10 @@
 #![tactic(auto)]
 
 pub mod limits;
-pub mod owed;
 pub mod rows;
 pub mod sending;
 pub mod steps;
 
 pub use limits::Asked;
-pub use owed::Owed;
-pub use sending::{Audience, Mailing};
+pub use sending::{Audience, Mailing, Owed};
 pub use steps::{Step, Turn};

@@ -1,53 +1,36 @@
 // The first row: numbers as received become values within their limits, or the call is refused.
 ghost use Rattle.std.specs.Prelude.{◌≡◌};
-ghost use Rattle.rules.specs.Limits.{new_point, asked_of, or_outside, moment_of};
+ghost use Rattle.rules.specs.Limits.{is_point, new_point, asked_of, or_outside, moment_of, day_of, party_of};
 ghost use Rattle.rules.specs.Changes.{initial_request};
 
-use market::{Fuel, Point, Refusal, Request, RequestKind, RequestState, Status};
+pub use market::limits::{LAST_DAY, LAST_MOMENT, LAST_POINT};
+use market::{
+    Fuel, NewPoint, NewRequest, Point, Refusal, Request, RequestKind, RequestState, Status,
+};
 
-pub const LAST_POINT: u64 = 9_999_999_999_999;
-
-pub const LAST_MOMENT: u64 = 143_999_999;
-
-pub const LAST_DAY: u64 = 99_999;
-
-pub const LAST_PARTY: u64 = 65_535;
-
-// A point as it is created, with nobody registered.
-pub fn new_point(number: u64, fuel: u64, domestic: u64, status: u64) -> Result<Point, Refusal>
-    ensures { result ≡ or_outside (new_point number fuel domestic status) }
+// The point as it is created, with nobody registered. No `TryFrom`: both types are of the crate below.
+pub fn new_point(new: NewPoint) -> Result<Point, Refusal>
+    ensures { result ≡ or_outside (new_point new.number new.fuel new.domestic new.status) }
 {
-    if number < 1 || number > LAST_POINT || domestic > 1 {
+    if !is_point(new.number) || new.domestic > 1 {
         return Err(Refusal::OutsideLimits);
     }
-    let Some(fuel) = Fuel::from_number(fuel) else {
-        return Err(Refusal::OutsideLimits);
-    };
-    if status > 3 {
+    let fuel = Fuel::try_from(new.fuel)?;
+    let status = Status::try_from(new.status)?;
+    if status == Status::Terminated {
         return Err(Refusal::OutsideLimits);
     }
-    let Some(status) = Status::from_number(status) else {
-        return Err(Refusal::OutsideLimits);
-    };
     Ok(Point {
-        number,
+        number: new.number,
         fuel,
-        domestic: domestic == 1,
+        domestic: new.domestic == 1,
         status,
-        supplier: None,
-        shipper: None,
-        since: None,
-        mem: None,
-        dc: None,
-        da: None,
-        map: None,
-        leaving: None,
-        request: None,
+        ..Point::BLANK
     })
 }
 
 // What a request asks for: a point, the gainer and its shipper, and the day to start.
-#[derive(Clone, Copy)]
+#[derive(Clone, Copy, Debug, PartialEq, Eq)]
 pub struct Asked {
     pub point: u64,
     pub gainer: u16,
@@ -55,37 +38,22 @@ pub struct Asked {
     pub start: u32,
 }
 
-impl Asked {
-    pub fn within(point: u64, gainer: u64, shipper: u64, start: u64) -> Result<Asked, Refusal>
-        ensures { result ≡ or_outside (asked_of point gainer shipper start) }
-    {
-        if point < 1 || point > LAST_POINT || start < 1 || start > LAST_DAY {
+impl TryFrom<NewRequest> for Asked {
+    type Error = Refusal;
+
+    ghost try_from_gives = { λ new result. result ≡ or_outside (asked_of new.point new.gainer new.shipper new.start) };
+
+    fn try_from(new: NewRequest) -> Result<Asked, Refusal> {
+        if !is_point(new.point) {
             return Err(Refusal::OutsideLimits);
         }
-        if gainer < 1 || gainer > LAST_PARTY || shipper > LAST_PARTY {
-            return Err(Refusal::OutsideLimits);
-        }
-        let shipper = if shipper == 0 {
-            None
-        } else {
-            Some(shipper as u16)
-        };
         Ok(Asked {
-            point,
-            gainer: gainer as u16,
-            shipper,
-            start: start as u32,
+            point: new.point,
+            gainer: party(new.gainer)?.ok_or(Refusal::OutsideLimits)?,
+            shipper: party(new.shipper)?,
+            start: day(new.start)?,
         })
     }
-}
-
-pub fn moment(number: u64) -> Result<u32, Refusal>
-    ensures { result ≡ or_outside (moment_of number) }
-{
-    if number > LAST_MOMENT {
-        return Err(Refusal::OutsideLimits);
-    }
-    Ok(number as u32)
 }
 
 impl Asked {
@@ -101,5 +69,40 @@ impl Asked {
             start: self.start,
             window: None,
         }
+    }
+}
+
+fn is_point(number: u64) -> bool
+    ensures { result ≡ is_point number }
+{
+    (1..=LAST_POINT).contains(&number)
+}
+
+// The party with this number, 0 for none.
+fn party(number: u64) -> Result<Option<u16>, Refusal>
+    ensures { result ≡ or_outside (party_of number) }
+{
+    match u16::try_from(number) {
+        Ok(0) => Ok(None),
+        Ok(party) => Ok(Some(party)),
+        Err(_) => Err(Refusal::OutsideLimits),
+    }
+}
+
+fn day(number: u64) -> Result<u32, Refusal>
+    ensures { result ≡ or_outside (day_of number) }
+{
+    match u32::try_from(number) {
+        Ok(day) if (1..=LAST_DAY).contains(&day) => Ok(day),
+        _ => Err(Refusal::OutsideLimits),
+    }
+}
+
+pub fn moment(number: u64) -> Result<u32, Refusal>
+    ensures { result ≡ or_outside (moment_of number) }
+{
+    match u32::try_from(number) {
+        Ok(moment) if moment <= LAST_MOMENT => Ok(moment),
+        _ => Err(Refusal::OutsideLimits),
     }
 }

@@ -1,14 +1,16 @@
 // The notices that a change owes.
-ghost use Rattle.std.specs.Prelude.{◌≡◌, ◌≤◌, [], length};
+ghost use Rattle.std.specs.Prelude.{◌≡◌, true};
 ghost use Rattle.rules.specs.Notices.{reaches, needs_supplier, party_in, notice_to, mailed};
 ghost use Rattle.rules.specs.Lists.{ListsStand};
-ghost use Rattle.rules.specs.Owing.{listed};
 
-use crate::owed::Owed;
+use arrayvec::ArrayVec;
 use market::{Fuel, Notice, NoticeKind, Point, Request, Role};
 
+// The notices that a change owes, at most one to a role.
+pub type Owed = ArrayVec<Notice, 13>;
+
 // Who hears of a change.
-#[derive(Clone, Copy)]
+#[derive(Clone, Copy, Debug, PartialEq, Eq)]
 pub enum Audience {
     Validation,
     Confirmation,
@@ -21,9 +23,9 @@ impl Audience {
     pub fn reaches(self, fuel: Fuel, role: Role) -> bool
         ensures { result ≡ reaches self fuel role }
     {
-        let gas = matches!(fuel, Fuel::Gas);
-        let gainer = !matches!(self, Audience::Deregistration);
-        let agents = !matches!(self, Audience::Validation);
+        let gas = fuel == Fuel::Gas;
+        let gainer = self != Audience::Deregistration;
+        let agents = self != Audience::Validation;
         match role {
             Role::Supplier | Role::Dcc => true,
             Role::Gainer => gainer,
@@ -38,7 +40,7 @@ impl Audience {
 }
 
 // A change to tell of: the point as it was before, the request it concerns, and the clock after.
-#[derive(Clone, Copy)]
+#[derive(Clone, Copy, Debug, PartialEq, Eq)]
 pub struct Mailing {
     pub kind: NoticeKind,
     pub audience: Audience,
@@ -97,39 +99,22 @@ impl Mailing {
 
     // All that the mailing owes, roles rising.
     pub fn owed(self) -> Owed
-        ensures { listed result ≡ mailed self }
+        ensures { result.items ≡ mailed self }
     {
-        let mut notices = [Notice::BLANK; 13];
-        let mut count = 0;
-        for i in 0..13 {
-            if let Some(notice) = self.notice_to(ROLES[i]) {
-                notices[count] = notice;
-                count += 1;
+        let mut owed = Owed::new();
+        for role in Role::ALL {
+            if let Some(notice) = self.notice_to(role) {
+                owed.push(notice);
             }
         }
-        Owed::of(notices, count)
+        owed
     }
 }
 
-const ROLES: [Role; 13] = [
-    Role::Gainer,
-    Role::Supplier,
-    Role::GainingShipper,
-    Role::Shipper,
-    Role::Mem,
-    Role::Dc,
-    Role::Da,
-    Role::Map,
-    Role::Dcc,
-    Role::Des,
-    Role::GasAgent,
-    Role::Ecoes,
-    Role::ElectricityAgent,
-];
-
 // That the lists are, role by role, the ones that the market agreed on. It only carries its promise.
 pub fn lists_stand() -> bool
-    ensures { ListsStand }
+    ensures stand { ListsStand }
+    ensures value { result ≡ true }
 {
     true
 }

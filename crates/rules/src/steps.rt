@@ -1,15 +1,14 @@
 // The next step of a point, and what a step makes of it.
 ghost use Rattle.std.specs.Prelude.{◌≡◌, Some};
-ghost use Rattle.rules.specs.Steps.{request_step, step_of, turned};
-ghost use Rattle.rules.specs.Owing.{listed};
+ghost use Rattle.rules.specs.Steps.{request_step, step_of, turned, turn_name};
 ghost use Rattle.rules.specs.Changes.{owed_at};
 
-use crate::owed::Owed;
-use crate::sending::{Audience, Mailing};
+use crate::sending::{Audience, Mailing, Owed};
 use market::{NoticeKind, Point, Request, RequestState};
+use std::fmt;
 
 // What a step makes of a point's request or registration.
-#[derive(Clone, Copy)]
+#[derive(Clone, Copy, Debug, PartialEq, Eq)]
 pub enum Turn {
     Confirmed,
     Secured,
@@ -17,16 +16,31 @@ pub enum Turn {
     Left,
 }
 
+impl fmt::Display for Turn {
+    ghost output = { λ turn. Some (turn_name turn) };
+
+    fn fmt<W: fmt::Write>(&self, f: &mut fmt::Formatter<W>) -> fmt::Result {
+        match self {
+            Turn::Confirmed => write!(f, "confirmed"),
+            Turn::Secured => write!(f, "secured"),
+            Turn::Completed => write!(f, "completed"),
+            Turn::Left => write!(f, "left"),
+        }
+    }
+}
+
 // A step that stands before a point, and the moment at which it is due.
-#[derive(Clone, Copy)]
+#[derive(Clone, Copy, Debug, PartialEq, Eq)]
 pub struct Step {
     pub point: Point,
     pub turn: Turn,
     pub moment: u64,
 }
 
+// The minutes of a day: a moment counts them from 00:00 of day 0 on.
 pub const DAY: u64 = 1_440;
 
+// The minute of the day at which a request is secured.
 pub const SECURING: u64 = 1_020;
 
 // The step of a pending request.
@@ -35,10 +49,7 @@ fn request_step(request: Request) -> Option<(Turn, u64)>
 {
     let start = u64::from(request.start);
     match request.state {
-        RequestState::Validated => match request.window {
-            Some(window) => Some((Turn::Confirmed, u64::from(window))),
-            None => None,
-        },
+        RequestState::Validated => Some((Turn::Confirmed, u64::from(request.window?))),
         RequestState::Confirmed => Some((Turn::Secured, start.saturating_sub(1) * DAY + SECURING)),
         RequestState::Secured => Some((Turn::Completed, start * DAY)),
     }
@@ -49,12 +60,10 @@ impl Step {
     pub fn of(point: Point) -> Option<Step>
         ensures { result ≡ step_of point }
     {
-        let next = match (point.leaving, point.request) {
-            (Some(day), _) => Some((Turn::Left, u64::from(day) * DAY)),
-            (None, Some(request)) => request_step(request),
-            (None, None) => None,
+        let (turn, moment) = match point.leaving {
+            Some(day) => (Turn::Left, u64::from(day) * DAY),
+            None => request_step(point.request?)?,
         };
-        let (turn, moment) = next?;
         Some(Step {
             point,
             turn,
@@ -66,45 +75,48 @@ impl Step {
     pub fn done(self) -> Point
         ensures { result ≡ turned self.turn self.point }
     {
-        let mut point = self.point;
+        let point = self.point;
         match (self.turn, point.request) {
-            (Turn::Confirmed, Some(request)) => {
-                point.request = Some(Request {
+            (Turn::Confirmed, Some(request)) => Point {
+                request: Some(Request {
                     state: RequestState::Confirmed,
                     ..request
-                });
-            }
-            (Turn::Secured, Some(request)) => {
-                point.request = Some(Request {
+                }),
+                ..point
+            },
+            (Turn::Secured, Some(request)) => Point {
+                request: Some(Request {
                     state: RequestState::Secured,
                     ..request
-                });
-            }
-            (Turn::Completed, Some(request)) => {
-                point.supplier = Some(request.gainer);
-                point.shipper = request.shipper;
-                point.since = Some(request.start);
-                point.request = None;
-            }
-            (Turn::Left, _) => {
-                point.supplier = None;
-                point.shipper = None;
-                point.since = None;
-                point.leaving = None;
-            }
-            (_, None) => {}
+                }),
+                ..point
+            },
+            (Turn::Completed, Some(request)) => Point {
+                supplier: Some(request.gainer),
+                shipper: request.shipper,
+                since: Some(request.start),
+                request: None,
+                ..point
+            },
+            (Turn::Left, _) => Point {
+                supplier: None,
+                shipper: None,
+                since: None,
+                leaving: None,
+                ..point
+            },
+            (_, None) => point,
         }
-        point
     }
 
     // What the step owes, where the clock then stands at `clock`.
     pub fn owed(self, clock: u32) -> Owed
-        ensures { listed result ≡ owed_at self.turn self.point clock }
+        ensures { result.items ≡ owed_at self.turn self.point clock }
     {
         let (kind, audience) = match self.turn {
             Turn::Confirmed => (NoticeKind::Confirmed, Audience::Confirmation),
             Turn::Secured => (NoticeKind::Secured, Audience::Securing),
-            Turn::Completed | Turn::Left => return Owed::none(),
+            Turn::Completed | Turn::Left => return Owed::new(),
         };
         Mailing {
             kind,

@@ -1,25 +1,23 @@
-use Rattle.std.proofs.Common.{length, take, ap, ◌∙◌, arith}
-use Rattle.std.proofs.lemmas.List.{length-set}
+use Rattle.std.proofs.Common.{sym, ◌∙◌, arith}
 use Rattle.market.specs.Numbers.{roles}
+use Rattle.market.specs.declared.notices.Role.TheVariants.{Gainer}
 use Rattle.rules.proofs.Mailed.{mailed_more, mailed_past}
 use Rattle.rules.proofs.sending.Mailing.owed.Goals as goal
 use Rattle.rules.proofs.sending.Mailing.owed.Goals.{in-Some, in_default}
 
-pub loop-i-preserved : goal.loop-i-preserved
-loop-i-preserved c =
-    let i = c.loop-i.i in
-    let n = c.loop-i.count in
-    let out = c.loop-i.notices in
-    let was = c.loop-i.invariant in
+pub loop-role-preserved : goal.loop-role-preserved
+loop-role-preserved c =
+    let out = c.loop-role.owed.items in
+    let i = c.loop-role.role-index in
+    let here = c.loop-role-test.true in
+    let was = c.loop-role.invariant in
     elim c.match-notice_to.branch [
-      | in-Some w ↦ (
-        omega (arith, w.count-is),
-        ap length w.notices-is ∙ length-set out n _ ∙ was.1,
-        (λ j. take (w.count-is j) (w.notices-is j)) ∙ mailed_more c.args.self roles i _ out n _ c.loop-i-test.true (omega arith) was.2 w.in-Some.ensures,
-      )
-      | in_default w ↦ (
-        omega (arith, w.count-is),
-        ap length w.notices-is ∙ was.1,
-        (λ j. take (w.count-is j) (w.notices-is j)) ∙ mailed_past c.args.self roles i _ out n c.loop-i-test.true was.2 w.in_default.ensures,
-      )
+      | in-Some w ↦ record {
+        few = rw w.owed-is (omega (arith, was.few, w.push.ensures.len));
+        all = rw (w.owed-is, w.push.ensures.items) (mailed_more c.args.self out roles i Gainer here w.in-Some.notice (sym w.in-Some.is ∙ c.notice_to.ensures) ∙ was.all);
+      }
+      | in_default w ↦ record {
+        few = rw w.owed-is (omega (arith, was.few));
+        all = rw w.owed-is (mailed_past c.args.self out roles i Gainer here (sym w.in_default.is ∙ c.notice_to.ensures) ∙ was.all);
+      }
     ]

@@ -1,7 +1,10 @@
-use Rattle.std.proofs.Common.{◌≡◌, ◌≤◌, length, take}
-use Rattle.market.specs.Numbers.{roles}
-use Rattle.rules.specs.Notices.{notices_to}
+use Rattle.std.proofs.Common.{◌≡◌, ◌++◌, ◌≤◌, length, drop}
+use Rattle.rules.specs.Notices.{notices_to, mailed}
 use Rattle.rules.proofs.sending.Mailing.owed.Given as goal
 
-abbrev pub invariant-loop-i : goal.invariant-loop-i
-invariant-loop-i l = (l.count ≤ l.i) × (length l.notices ≡ 13) × (take l.count l.notices ≡ notices_to l.self (take l.i roles))
+-- at most one notice to each role so far; with those to the other roles they are all
+abbrev pub invariant-loop-role : goal.invariant-loop-role
+invariant-loop-role l = record {
+  few : length l.owed.items ≤ l.role-index;
+  all : l.owed.items ++ notices_to l.self (drop l.role-index l.role-items) ≡ mailed l.self;
+}
