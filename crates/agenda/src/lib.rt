@@ -11,31 +11,19 @@ use rules::Step;
 fn sooner(upto: u64, best: Option<Step>, next: Option<Step>) -> Option<Step>
     ensures { result ≡ sooner upto best next }
 {
-    match (best, next) {
-        (best, None) => best,
-        (None, Some(next)) => {
-            if next.moment <= upto {
-                Some(next)
-            } else {
-                None
-            }
-        }
-        (Some(best), Some(next)) => {
-            if next.moment < best.moment {
-                Some(next)
-            } else {
-                Some(best)
-            }
-        }
+    match next {
+        Some(step) if best.map_or(step.moment <= upto, |best| step.moment < best.moment) => next,
+        _ => best,
     }
 }
 
 // The earliest step up to the moment, the lowest point first among equals. Each point is asked once.
 pub fn earliest<R: Register>(register: &R, upto: u64) -> Option<Step>
-    ensures { Earliest (R.look register.now) upto (2 ^ 64) result }
+    ensures { Earliest (R.known register.now).look upto (2 ^ 64) result }
 {
     let mut best = None;
     let mut from = 0u64;
+    // No `for`: a register gives its points one at a time, each by the number from which it is asked.
     while let Some(point) = register.lowest_from(from) {
         best = sooner(upto, best, Step::of(point));
         let Some(next) = point.number.checked_add(1) else {
