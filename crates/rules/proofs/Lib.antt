@@ -1,1 +1,1 @@
-pub mod Mailed
+mod Mailed

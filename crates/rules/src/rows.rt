@@ -1,6 +1,6 @@
 // The rows of the table of refusals that look at one point.
-ghost use Rattle.std.specs.Prelude.{◌≡◌, ◌||◌, not};
-ghost use Rattle.rules.specs.Rows.{first_of, passing, too_far, too_soon, not_for_initial, initial_rows};
+ghost use Rattle.std.specs.Prelude.{◌≡◌, ◌||◌};
+ghost use Rattle.rules.specs.Rows.{first_of, passing, too_far, too_soon, initial_rows};
 
 use crate::limits::Asked;
 use crate::steps::DAY;
