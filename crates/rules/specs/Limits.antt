@@ -52,11 +52,11 @@ new_point n f d s = cond (is_point n && nat_le d 1 && nat_le s 3) (created_by n 
 abbrev pub party_or_none : ℕ → Option ℕ
 party_or_none n = cond (n == 0) None (Some n)
 
--- the party with a number, if it is one or 0
+-- a party's number, or 0
 abbrev pub party_of : ℕ → Option (Option ℕ)
 party_of n = cond (nat_le n 65535) (Some (party_or_none n)) None
 
--- the day with a number
+-- a day's number
 abbrev pub day_of : ℕ → Option ℕ
 day_of n = cond (is_day n) (Some n) None
 
