@@ -1,5 +1,5 @@
-mod Sets
 mod Shifts
-pub mod Below
+pub mod Orders
 pub mod Listed
-mod Located
+pub mod Ordered
+mod Places

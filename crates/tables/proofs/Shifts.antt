@@ -1,24 +1,19 @@
--- The steps of an insertion that carries one element along.
-use Rattle.std.proofs.Common.{◌≡◌, ℕ, ◌+◌, ◌<◌, List, [], ◌∷◌, ◌++◌, length, get_or, take, drop, set, sym, ap, ◌∙◌, arith}
-use Rattle.std.proofs.lemmas.List.{append_assoc, take_more_set, drop_more, drop_all, length-take-le, get_or-take, drop-set-lt}
+-- What stands first in a list after a write there, and after a copy one place up with a write in the gap.
+use Rattle.std.proofs.Common.{◌≡◌, ℕ, ◌+◌, ◌-◌, ◌<◌, ◌≤◌, List, [], ◌∷◌, ◌++◌, length, take, drop, set, refl, sym, ap, ◌∙◌, arith, length-append, length-take, length-drop, length-take-le, append_assoc}
+use Rattle.std.specs.List.{insert, copy_within}
+use Rattle.std.proofs.lemmas.List.{set-append_left, take_at, take-take, drop-take, take_more_set}
 use Rattle.market.proofs.Lists.{set-take}
 
-module _ {X : Type 0} (n : ℕ) (target : List X) where
-  -- the list that the loop is to leave, with the element on its way put in
-  abbrev pub Carried : ℕ → List X → X → Type 0
-  Carried i xs x = take i xs ++ x ∷ drop i (take n xs) ≡ target
+pub ruleset writes = (set-take)
 
-  pub carried_more : (i : ℕ) (xs : List X) (x y : X) → i < n → n < length xs → y ≡ get_or xs i y → Carried i xs x → Carried (i + 1) (set xs i x) y
-  carried_more i xs x y l m read h =
-      let long : length (take n xs) ≡ n = length-take-le n xs (omega arith) in
-      let at_i = get_or-take n xs i y l in
-      let front = take_more_set xs i x (omega arith) in
-      let back : drop (i + 1) (take n (set xs i x)) ≡ drop (i + 1) (take n xs) = ap (drop (i + 1)) (sym (set-take n xs i x)) ∙ drop-set-lt (i + 1) (take n xs) i x (omega arith) in
-      let rest : drop i (take n xs) ≡ y ∷ drop (i + 1) (take n xs) = drop_more (take n xs) i y (omega arith) ∙ ap (λ z. z ∷ drop (i + 1) (take n xs)) (at_i ∙ sym read) in
-      let both : take (i + 1) (set xs i x) ++ y ∷ drop (i + 1) (take n (set xs i x)) ≡ (take i xs ++ x ∷ []) ++ y ∷ drop (i + 1) (take n xs) = cc in
-      both ∙ append_assoc (take i xs) (x ∷ []) (y ∷ drop (i + 1) (take n xs)) ∙ ap (λ z. take i xs ++ x ∷ z) (sym rest) ∙ h
-
-  pub carried_all : (xs : List X) (x : X) → n < length xs → Carried n xs x → take (n + 1) (set xs n x) ≡ target
-  carried_all xs x m h =
-      let long : length (take n xs) ≡ n = length-take-le n xs (omega arith) in
-      take_more_set xs n x m ∙ sym (ap (λ z. take n xs ++ x ∷ z) (drop_all n (take n xs) (omega arith))) ∙ h
+pub inserted : {X : Type 0} (xs : List X) (count at : ℕ) (x : X) → count < length xs → at ≤ count → take (count + 1) (set (copy_within xs at count (at + 1)) at x) ≡ insert (take count xs) at x
+inserted xs count at x room within =
+    let A = take (at + 1) xs in
+    let B = take (count - at) (drop at xs) in
+    let C = drop (at + 1 + (count - at)) xs in
+    let front : length A ≡ at + 1 = length-take-le (at + 1) xs (omega arith) in
+    let write : set ((A ++ B) ++ C) at x ≡ ((take at xs ++ x ∷ []) ++ B) ++ C =
+    set-append_left (A ++ B) C at x (omega (arith, length-append A B)) ∙ ap (λ zs. zs ++ C) (set-append_left A B at x (omega arith) ∙ ap (λ zs. zs ++ B) (set-take (at + 1) xs at x ∙ take_more_set xs at x (omega arith))) in
+    let long : length ((take at xs ++ x ∷ []) ++ B) ≡ count + 1 = omega (arith, length-append (take at xs ++ x ∷ []) B, length-append (take at xs) (x ∷ []), length-take-le at xs (omega arith), length-take (count - at) (drop at xs), length-drop at xs) in
+    let rest : drop at (take count xs) ≡ B = ap (λ n. drop at (take n xs)) {x = count} {y = at + (count - at)} (omega arith) ∙ drop-take at (count - at) xs in
+    ap (take (count + 1)) write ∙ take_at ((take at xs ++ x ∷ []) ++ B) C (count + 1) long ∙ append_assoc (take at xs) (x ∷ []) B ∙ sym (rw (take-take at count xs within, rest) refl)

@@ -1,4 +1,5 @@
 pub mod Orders
 pub mod Keys
+pub mod Places
 pub mod Tables
 pub mod Points

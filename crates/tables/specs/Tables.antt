@@ -1,19 +1,17 @@
 -- What a table holds, and where it has a place.
-use Rattle.std.specs.Prelude.{◌≡◌, ℕ, Bool, true, not, ◌&&◌, List, length, take, is_some, nat_lt}
-use Rattle.tables.specs.Keys.{in_order, find}
-use Rattle.tables.specs.declared.OrderedTable.{OrderedTable}
+use Rattle.std.specs.Prelude.{ℕ, Bool, not, ◌&&◌, List, length, is_some, nat_lt}
+use Rattle.std.specs.declared.cmp.Ordering.{Ordering}
+use Rattle.tables.specs.Keys.{find}
 
-abbrev pub held : {T K : Type 0} → OrderedTable T K → List T
-held t = take t.count t.items.now
+-- the records in the order of their keys, and how many there is room for in all
+pub record Records (T : Type 0) : Type 0 where
+  pub items : List T
+  pub room : ℕ
 
--- how many records there is room for in all
-abbrev pub size : {T K : Type 0} → OrderedTable T K → ℕ
-size t = length t.items.now
-
--- the records stand in the order of their keys
-abbrev pub Sound : {T K : Type 0} → (T → K) → (K → K → Bool) → OrderedTable T K → Type 0
-Sound own less t = in_order own less (held t) ≡ true
+-- room for one more record
+abbrev pub has_room : {T : Type 0} → Records T → Bool
+has_room t = nat_lt (length t.items) t.room
 
 -- a place for the key k: it is absent, and there is room for one more
-abbrev pub placed : {T K : Type 0} → (T → K) → (K → K → Bool) → OrderedTable T K → K → Bool
-placed own less t k = not (is_some (find own less k (held t))) && nat_lt (length (held t)) (size t)
+abbrev pub placed : {T K : Type 0} → (T → K) → (K → K → Ordering) → Records T → K → Bool
+placed own cmp t k = not (is_some (find own cmp k t.items)) && has_room t

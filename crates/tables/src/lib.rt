@@ -4,82 +4,61 @@
 //! more record exactly while it holds fewer than the slice has elements.
 #![tactic(auto)]
 
-ghost use Rattle.std.specs.Prelude.{◌≡◌, ◌+◌, ◌<◌, ◌≤◌, Bool, true, false, [], length, take, is_some, if◌then◌else◌, MatchResult};
-ghost use Rattle.std.specs.List.{insert};
-ghost use Rattle.tables.specs.Orders.{Ordered};
-ghost use Rattle.tables.specs.Keys.{find, seek, join, swap, in_order, Placed, Found, Missing};
-ghost use Rattle.tables.specs.Tables.{held, size, Sound, placed};
+ghost use Rattle.std.specs.Prelude.{◌≡◌, ◌+◌, ◌<◌, ◌≤◌, ◌&&◌, true, [], length, take, insert, slice_set, is_ok, is_some, IfSome, MatchResult, Some, if◌then◌else◌, nat_lt};
+ghost use Rattle.std.specs.Ordering.{is_eq};
+ghost use Rattle.market.specs.Stores.{addition};
+ghost use Rattle.tables.specs.Keys.{find, find_put, seek, join, swap, in_order};
+ghost use Rattle.tables.specs.Places.{IsFirstFrom, Found, Missing};
+ghost use Rattle.tables.specs.Tables.{has_room, placed};
+
+use market::{Absent, AddError};
+use std::marker::Model;
 
 mod points;
 
-// A record with a key; its keys have a total order.
+// A record with a key, in the order of the key's type.
 pub trait Keyed {
-    type Key: Copy;
+    type Key: Ord + Copy;
 
     // The record's own key.
     ghost own: { Self → Self.Key };
 
-    ghost less: { Self.Key → Self.Key → Bool };
-
     fn key(&self) -> Self::Key
         ensures { result ≡ own self.now };
-
-    fn below(a: &Self::Key, b: &Self::Key) -> bool
-        ensures { result ≡ less a.now b.now };
-
-    ghost order: { Ordered less };
 }
 
-// The records stand first in the slice, in the order of their keys. A struct cannot carry a fact
-// of an order that is a parameter, so each promise that rests on it says so; a struct over a
-// table of a certain order can carry it.
+// Records in the order of their keys, no two of one key. They stand first in the slice.
 #[derive(Drop)]
 pub struct OrderedTable<'a, T: Keyed + Copy> {
     items: &'a mut [T],
     count: usize,
 }
 
+// A clause sees the records in order, and how many there is room for in all.
+impl<'a, T: Keyed + Copy> Model for OrderedTable<'a, T> {
+    ghost use Rattle.std.specs.Prelude.{◌≡◌, ◌≤◌, true, length, take};
+    ghost use Rattle.tables.specs.Keys.{in_order};
+    ghost use Rattle.tables.specs.Tables.{Records};
+
+    ghost Value = { Records T };
+
+    ghost view = { λ t. record { items = take t.count t.items.now; room = length t.items.now } };
+
+    ghost invariant = { λ t. (t.count ≤ length t.items.now) × (in_order T.own T.Key.cmp (take t.count t.items.now) ≡ true) };
+}
+
 impl<'a, T: Keyed + Copy> OrderedTable<'a, T> {
     // An empty table over all of the slice.
     pub fn new(items: &'a mut [T]) -> Self
-        ensures held { held result ≡ [] }
-        ensures size { size result ≡ length items.old }
-        ensures sound { Sound T.own T.less result }
+        ensures { result ≡ record { items = []; room = length items.old } }
     {
         OrderedTable { items, count: 0 }
     }
 
-    fn records(&self) -> &[T]
-        ensures { result.now ≡ held self.now }
-    {
-        let items = &*self.items;
-        if self.count < items.len() {
-            &items[..self.count]
-        } else {
-            items
-        }
-    }
-
-    // Where the key stands, or else where it would.
-    fn locate(&self, key: T::Key) -> Result<usize, usize>
-        ensures within { MatchResult result (λ i. i < length (held self.now)) (λ i. i ≤ length (held self.now)) }
-        ensures inside { MatchResult result (λ i. i < size self.now) (λ i. i ≤ self.now.count) }
-        ensures sound { Sound T.own T.less self.now → MatchResult result (Found T.own T.less (held self.now) key) (Missing T.own T.less (held self.now) key) }
-    {
-        let records = self.records();
-        let at = place_of(records, key);
-        if at < records.len() {
-            let other = records[at].key();
-            if !T::below(&key, &other) {
-                return Ok(at);
-            }
-        }
-        Err(at)
-    }
-
     // The record with the key.
     pub fn read(&self, key: T::Key) -> Option<T>
-        ensures { Sound T.own T.less self.now → result ≡ find T.own T.less key (held self.now) }
+        ensures value { result ≡ find T.own T.Key.cmp key self.now.items }
+        ensures named { IfSome result (λ x. is_eq (T.Key.cmp (T.own x) key) ≡ true) }
     {
         let records = self.records();
         match self.locate(key) {
@@ -90,92 +69,91 @@ impl<'a, T: Keyed + Copy> OrderedTable<'a, T> {
 
     // The first record whose key is this one or above.
     pub fn first_from(&self, key: T::Key) -> Option<T>
-        ensures { Sound T.own T.less self.now → result ≡ seek T.own T.less key (held self.now) }
+        ensures value { result ≡ seek T.own T.Key.cmp key self.now.items }
+        ensures lowest { IsFirstFrom T.own T.Key.cmp self.now.items key result }
+        ensures in_order { in_order T.own T.Key.cmp self.now.items ≡ true }
     {
         let records = self.records();
-        let at = place_of(records, key);
-        if at < records.len() {
-            return Some(records[at]);
+        match self.locate(key) {
+            Ok(at) | Err(at) => records.get(at).copied(),
         }
-        None
     }
 
     // Whether the key is absent and there is room for one more record.
     pub fn has_place(&self, key: T::Key) -> bool
-        ensures { Sound T.own T.less self.now → result ≡ placed T.own T.less self.now key }
+        ensures { result ≡ placed T.own T.Key.cmp self.now key }
     {
-        self.read(key).is_none() && self.records().len() < self.items.len()
+        self.read(key).is_none() && self.count < self.items.len()
     }
 
     // Joins the record where its key has a place.
-    pub fn add(&mut self, x: T) -> bool
-        ensures value { Sound T.own T.less self.old → result ≡ placed T.own T.less self.old (T.own x) }
-        ensures after { Sound T.own T.less self.old → held self.new ≡ (if result then join T.own T.less x (held self.old) else held self.old) }
-        ensures size { size self.new ≡ size self.old }
-        ensures sound { Sound T.own T.less self.old → Sound T.own T.less self.new }
+    pub fn add(&mut self, x: T) -> Result<(), AddError>
+        ensures value { result ≡ addition (find T.own T.Key.cmp (T.own x) self.old.items) (has_room self.old) }
+        ensures after { self.new ≡ record self.old { items = (if is_ok result then join T.own T.Key.cmp x self.old.items else self.old.items) } }
+        ensures by_key { (k : T.Key) → find T.own T.Key.cmp k self.new.items ≡ find_put T.own T.Key.cmp (is_ok result) x self.old.items k }
+        ensures count { length self.new.items ≡ (if is_ok result then length self.old.items + 1 else length self.old.items) }
     {
         match self.locate(x.key()) {
-            Ok(_) => false,
+            Ok(_) => Err(AddError::AlreadyThere),
+            Err(_) if self.count == self.items.len() => Err(AddError::NoPlace),
             Err(at) => {
-                let count = self.count;
-                if count < self.items.len() {
-                    insert_at(self.items, count, at, x);
-                    self.count = count + 1;
-                    true
-                } else {
-                    false
-                }
+                insert_at(self.items, self.count, at, x);
+                self.count += 1;
+                Ok(())
             }
         }
     }
 
     // Puts the record in the place of the one with its key.
-    pub fn replace(&mut self, x: T) -> bool
-        ensures value { Sound T.own T.less self.old → result ≡ is_some (find T.own T.less (T.own x) (held self.old)) }
-        ensures after { Sound T.own T.less self.old → held self.new ≡ swap T.own T.less x (held self.old) }
-        ensures size { size self.new ≡ size self.old }
-        ensures sound { Sound T.own T.less self.old → Sound T.own T.less self.new }
+    pub fn replace(&mut self, x: T) -> Result<(), Absent>
+        ensures value { is_ok result ≡ is_some (find T.own T.Key.cmp (T.own x) self.old.items) }
+        ensures after { self.new ≡ record self.old { items = swap T.own T.Key.cmp x self.old.items } }
+        ensures by_key { (k : T.Key) → find T.own T.Key.cmp k self.new.items ≡ find_put T.own T.Key.cmp (is_ok result) x self.old.items k }
+        ensures count { length self.new.items ≡ length self.old.items }
     {
         match self.locate(x.key()) {
             Ok(at) => {
-                self.items[at] = x;
-                true
+                write_at(self.items, self.count, at, x);
+                Ok(())
             }
-            Err(_) => false,
+            Err(_) => Err(Absent),
         }
     }
-}
 
-// The first place whose record has the key or one above it.
-fn place_of<T: Keyed + Copy>(records: &[T], key: T::Key) -> usize
-    ensures within { result ≤ length records.now }
-    ensures sound { in_order T.own T.less records.now ≡ true → Placed T.own T.less records.now key result }
-{
-    let mut low = 0;
-    let mut high = records.len();
-    while low < high {
-        let mid = low + (high - low) / 2;
-        let found = records[mid].key();
-        if T::below(&found, &key) {
-            low = mid + 1;
-        } else {
-            high = mid;
-        }
+    fn records(&self) -> &[T]
+        ensures all { result.now ≡ self.now.items }
+        ensures in_order { in_order T.own T.Key.cmp self.now.items ≡ true }
+    {
+        let items = &*self.items;
+        &items[..self.count]
     }
-    low
+
+    // Where the key stands, or else where it would.
+    fn locate(&self, key: T::Key) -> Result<usize, usize>
+        ensures place { MatchResult result (Found T.own T.Key.cmp self.now.items key) (Missing T.own T.Key.cmp self.now.items key) }
+        ensures lowest { IsFirstFrom T.own T.Key.cmp self.now.items key (seek T.own T.Key.cmp key self.now.items) }
+    {
+        self.records().binary_search_by_key(&key, |item| item.key())
+    }
 }
 
 // Puts x at `at` among the first `count`, and what stood from there on one place further.
+#[tactic(auto, using(crate::proofs::Shifts::inserted))]
 fn insert_at<T: Copy>(items: &mut [T], count: usize, at: usize, x: T)
     requires room { count < length items.old }
     requires within { at ≤ count }
     ensures { take (count + 1) items.new ≡ insert (take count items.old) at x }
 {
-    let mut carried = x;
-    for i in at..count {
-        let old = items[i];
-        items[i] = carried;
-        carried = old;
-    }
-    items[count] = carried;
+    items.copy_within(at..count, at + 1);
+    items[at] = x;
+}
+
+// Puts x at `at` among the first `count`.
+#[tactic(auto, using(crate::proofs::Shifts::writes))]
+fn write_at<T: Copy>(items: &mut [T], count: usize, at: usize, x: T)
+    requires room { count ≤ length items.old }
+    requires within { at < count }
+    ensures { take count items.new ≡ slice_set (take count items.old) at x }
+{
+    items[at] = x;
 }
