@@ -1,5 +1,5 @@
 -- What `find`, `seek`, `join` and `swap` give, by the records of a list in any order.
-use Rattle.std.proofs.Common.{◌≡◌, ℕ, zero, suc, ◌+◌, ◌<◌, ◌≤◌, true, false, cond, ◌&&◌, List, [], ◌∷◌, length, get_or, set, slice_get, is_some, IfSome, Some, None, refl, arith}
+use Rattle.std.proofs.Common.{◌≡◌, ℕ, zero, suc, ◌<◌, ◌≤◌, true, false, cond, ◌&&◌, List, [], ◌∷◌, length, get_or, set, slice_get, is_some, Some, None, refl, arith}
 use Rattle.std.proofs.lemmas.Cmp.{eq_by_cmp_equiv}
 use Rattle.std.specs.Cmp.{IsTotalOrder}
 use Rattle.std.specs.List.{insert}
@@ -8,21 +8,6 @@ use Rattle.std.specs.declared.cmp.Ordering.{Ordering}
 use Rattle.tables.specs.Keys.{find, seek, join, swap}
 
 module _ {X K : Type 0} (own : X → K) (cmp : K → K → Ordering) where
-  -- a record that was found has the key that was sought
-  pub find_named : (k : K) (xs : List X) → IfSome (find own cmp k xs) (λ x. is_eq (cmp (own x) k) ≡ true)
-  find_named k [] = tt
-  find_named k (x ∷ xs) =
-      let ih = find_named k xs in
-      elim (is_eq (cmp (own x) k)) as (λ b. is_eq (cmp (own x) k) ≡ b → IfSome (cond b (Some x) (find own cmp k xs)) (λ z. is_eq (cmp (own z) k) ≡ true)) [ true ↦ λ e. e | false ↦ λ e. ih ] refl
-
-  pub length-join : (x : X) (xs : List X) → length (join own cmp x xs) ≡ length xs + 1
-  length-join x [] = refl
-  length-join x (y ∷ ys) = let ih = length-join x ys in grind arith
-
-  pub length-swap : (x : X) (xs : List X) → length (swap own cmp x xs) ≡ length xs
-  length-swap x [] = refl
-  length-swap x (y ∷ ys) = let ih = length-swap x ys in grind arith
-
   pub swap_none : (x : X) (xs : List X) → find own cmp (own x) xs ≡ None → swap own cmp x xs ≡ xs
   swap_none x [] h = refl
   swap_none x (y ∷ ys) h = let ih = swap_none x ys in grind arith

@@ -4,7 +4,7 @@
 //! more record exactly while it holds fewer than the slice has elements.
 #![tactic(auto)]
 
-ghost use Rattle.std.specs.Prelude.{◌≡◌, ◌+◌, ◌<◌, ◌≤◌, ◌&&◌, true, [], length, take, insert, slice_set, is_ok, is_some, IfSome, MatchResult, Some, if◌then◌else◌, nat_lt};
+ghost use Rattle.std.specs.Prelude.{◌≡◌, ◌+◌, ◌<◌, ◌≤◌, true, [], length, take, insert, slice_set, is_ok, is_some, IfSome, MatchResult, if◌then◌else◌};
 ghost use Rattle.std.specs.Ordering.{is_eq};
 ghost use Rattle.market.specs.Stores.{addition};
 ghost use Rattle.tables.specs.Keys.{find, find_put, seek, join, swap, in_order};
@@ -16,7 +16,7 @@ use std::marker::Model;
 
 mod points;
 
-// A record with a key, in the order of the key's type.
+// A record with a key. Its keys have the order of their type.
 pub trait Keyed {
     type Key: Ord + Copy;
 
