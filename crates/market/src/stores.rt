@@ -1,8 +1,8 @@
 // What the engine is built on, by meaning and not by make: a register of points, a calendar of
 // working days, an outbox of notices and a directory of parties.
-ghost use Rattle.std.specs.Prelude.{◌≡◌, ℕ, ◌-◌, ◌≤◌, Bool, true, false, [], ◌∷◌, ◌++◌, is_some, is_ok, IfSome, if◌then◌else◌, None, nat_lt};
-ghost use Rattle.market.specs.Looks.{put_at, LowestFrom};
-ghost use Rattle.market.specs.Stores.{Registered, Queue, Parties, addition};
+ghost use Rattle.std.specs.Prelude.{◌≡◌, ℕ, ◌-◌, ◌≤◌, Bool, true, [], ◌∷◌, ◌++◌, is_ok, IfSome, if◌then◌else◌, None, nat_lt};
+ghost use Rattle.market.specs.Looks.{LowestFrom};
+ghost use Rattle.market.specs.Stores.{Registered, Queue, Parties, Added, Replaced};
 ghost use Rattle.market.specs.Waits.{oldest, others};
 
 use crate::notices::{Notice, Role};
@@ -29,16 +29,11 @@ pub trait Register {
 
     // Joins a new point where its place exists; after that a place may be gone, but none appears.
     fn add(&mut self, point: Point) -> Result<(), AddError>
-        ensures value { result ≡ addition ((known self.old).look point.number) ((known self.old).place point.number) }
-        ensures after { (k : ℕ) → (known self.new).look k ≡ put_at (is_ok result) point (known self.old).look k }
-        ensures shrinks { (k : ℕ) → (known self.new).place k ≡ true → (known self.old).place k ≡ true }
-        ensures refused { is_ok result ≡ false → (k : ℕ) → (known self.new).place k ≡ (known self.old).place k };
+        ensures { Added point result (known self.old) (known self.new) };
 
     // Puts the point in the place of the one of its number; an absent number is refused.
     fn replace(&mut self, point: Point) -> Result<(), Absent>
-        ensures value { is_ok result ≡ is_some ((known self.old).look point.number) }
-        ensures after { (k : ℕ) → (known self.new).look k ≡ put_at (is_ok result) point (known self.old).look k }
-        ensures same { (k : ℕ) → (known self.new).place k ≡ (known self.old).place k };
+        ensures { Replaced point result (known self.old) (known self.new) };
 }
 
 // A set of working days.
