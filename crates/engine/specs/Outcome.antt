@@ -1,6 +1,6 @@
 -- The whole outcome of a call: refused by the first row that applies, and nothing changed;
 -- or accepted, and exactly this.
-use Rattle.std.specs.Prelude.{◌≡◌, ℕ, ◌-◌, ◌^◌, ◌≤◌, Bool, true, false, List, ◌++◌, length, Some, None, Ok, Err, Option, Result}
+use Rattle.std.specs.Prelude.{◌≡◌, ℕ, ◌-◌, ◌^◌, ◌≤◌, Bool, true, false, List, [], ◌++◌, length, Some, None, Ok, Err, Option, Result}
 use Rattle.market.specs.declared.points.Point.{Point}
 use Rattle.market.specs.declared.refusals.Refusal.{Refusal}
 use Rattle.market.specs.declared.refusals.Refusal.TheVariants.{OutsideLimits, NoSuchPoint}
@@ -8,7 +8,8 @@ use Rattle.market.specs.Looks.{put_at}
 use Rattle.market.specs.Waits.{oldest, others}
 use Rattle.rules.specs.declared.steps.Step.{Step}
 use Rattle.rules.specs.Limits.{new_point, asked_of, moment_of}
-use Rattle.rules.specs.Rows.{Row, first_of, Parties, initial_rows}
+use Rattle.market.specs.Stores.{Parties}
+use Rattle.rules.specs.Rows.{Row, first_of, initial_rows}
 use Rattle.engine.specs.declared.calls.Answer.{Answer}
 use Rattle.engine.specs.declared.calls.Answer.TheVariants.{Taken}
 use Rattle.engine.specs.declared.calls.Call.{Call}
@@ -66,7 +67,8 @@ Passes rows s r t Next = Unless (first_of rows) s r t Next
 abbrev pub Settled : Effect → State → Result Answer Refusal → State → Type 0
 Settled e s r t = Passes (crowded s e) s r t (Accepted e s r t)
 
--- the oldest notice is handed out, or nothing when none waits; free places never fall by it
+-- the oldest notice is handed out, or nothing when none waits; free places never fall by it, and
+-- where none is left waiting the whole size is free
 pub record Handed (s : State) (a : Answer) (t : State) : Type 0 where
   pub answer : a ≡ Taken (oldest s.queue.waiting)
   pub points : (k : ℕ) → t.look k ≡ s.look k
@@ -74,6 +76,7 @@ pub record Handed (s : State) (a : Answer) (t : State) : Type 0 where
   pub clock : t.clock ≡ s.clock
   pub waiting : t.queue.waiting ≡ others s.queue.waiting
   pub room : s.queue.room ≤ t.queue.room
+  pub emptied : t.queue.waiting ≡ [] → t.queue.room ≡ t.queue.size
   pub size : t.queue.size ≡ s.queue.size
 
 abbrev pub Took : State → Result Answer Refusal → State → Type 0
@@ -85,19 +88,19 @@ abbrev pub Foreseen : State → ℕ → (Option Step → Type 0) → Type 0
 Foreseen s upto Next = (e : Option Step) × Earliest s.look upto (2 ^ 64) e × Next e
 
 abbrev pub Outcome : Call → Parties → State → Result Answer Refusal → State → Type 0
-Outcome (Create n f d u) w s r t =
-    Needs OutsideLimits (new_point n f d u) s r t (λ p.
+Outcome (Create n) w s r t =
+    Needs OutsideLimits (new_point n.number n.fuel n.domestic n.status) s r t (λ p.
     Foreseen s s.clock (λ due.
     Passes (overdue due) s r t (
     Passes (newcomer s p) s r t (
     Accepted (creating p s.clock) s r t))))
-Outcome (Initial n g h d) w s r t =
-    Needs OutsideLimits (asked_of n g h d) s r t (λ a.
+Outcome (Initial n) w s r t =
+    Needs OutsideLimits (asked_of n.point n.gainer n.shipper n.start) s r t (λ a.
     Foreseen s s.clock (λ due.
     Passes (overdue due) s r t (
-    Needs NoSuchPoint (s.look a.point) s r t (λ p.
+    Needs NoSuchPoint (s.look a.point) s r t (λ p. (p.number ≡ a.point) × (
     Passes (initial_rows w s.clock p a) s r t (
-    Settled (requesting a p s.clock) s r t)))))
+    Settled (requesting a p s.clock) s r t))))))
 Outcome (Advance n) w s r t =
     Needs OutsideLimits (moment_of n) s r t (λ m.
     Passes (backwards s m) s r t (

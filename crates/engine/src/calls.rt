@@ -1,24 +1,14 @@
 // What can be asked of the engine, and what it answers.
-use market::Notice;
+use market::{NewPoint, NewRequest, Notice};
 use rules::Turn;
 
 // A call with its numbers as received, whatever they are.
-#[derive(Clone, Copy, PartialEq, Eq)]
+#[derive(Clone, Copy, Debug, PartialEq, Eq)]
 pub enum Call {
     // A new point.
-    Create {
-        number: u64,
-        fuel: u64,
-        domestic: u64,
-        status: u64,
-    },
-    // A request for a point that has no supplier; shipper 0 for none.
-    Initial {
-        point: u64,
-        gainer: u64,
-        shipper: u64,
-        start: u64,
-    },
+    Create(NewPoint),
+    // A request for a point that has no supplier.
+    Initial(NewRequest),
     // The earliest step up to the moment, or else the clock moves there.
     Advance {
         moment: u64,
@@ -27,7 +17,7 @@ pub enum Call {
     Take,
 }
 
-#[derive(Clone, Copy)]
+#[derive(Clone, Copy, Debug, PartialEq, Eq)]
 pub enum Answer {
     // Accepted, and there is no more to say.
     Done,

@@ -1,31 +1,31 @@
 // The engine: a register that it alone changes, a clock, and the calls. Each call checks its rows in
 // the table's order, and then makes its change, whole.
 ghost use Rattle.std.specs.Prelude.{◌≡◌, ◌^◌, true, is_some, Option as Maybe};
-ghost use Rattle.rules.specs.Owing.{listed};
-ghost use Rattle.rules.specs.Rows.{Parties, parties_of, first_of, passing};
+ghost use Rattle.market.specs.Stores.{Queue, Parties};
+ghost use Rattle.rules.specs.Rows.{first_of, passing};
 ghost use Rattle.rules.specs.declared.steps.Step.{Step as Stepping};
 ghost use Rattle.agenda.specs.Earliest.{Earliest};
 ghost use Rattle.engine.specs.Effects.{creating, changing, advancing};
 ghost use Rattle.engine.specs.Outcome.{Outcome, Accepted, Passes, Settled};
 ghost use Rattle.engine.specs.Table.{overdue, newcomer};
-ghost use Rattle.engine.specs.State.{Queue, state_of, view_of};
+ghost use Rattle.engine.specs.State.{state_of, view_of};
 
 use crate::calls::{Answer, Call};
 use crate::settling::post;
 use agenda::earliest;
-use market::{Calendar, Directory, NoticeKind, Outbox, Point, Refusal, Register};
+use market::{Calendar, Directory, NewPoint, NewRequest, NoticeKind, Outbox, Point, Refusal, Register};
 use rules::{Asked, Audience, Mailing, Owed, Step, limits, rows};
 
 #[derive(Drop)]
-pub struct Engine<'a, R> {
-    register: &'a mut R,
+pub struct Engine<R> {
+    register: R,
     clock: u32,
 }
 
-impl<'a, R: Register> Engine<'a, R> {
+impl<R: Register> Engine<R> {
     // An engine over the register as it is, with its clock at 0.
-    pub fn new(register: &'a mut R) -> Self
-        ensures register { result.register.now ≡ register.old }
+    pub fn new(register: R) -> Self
+        ensures register { result.register ≡ register }
         ensures clock { result.clock ≡ 0 }
     {
         Engine { register, clock: 0 }
@@ -33,9 +33,9 @@ impl<'a, R: Register> Engine<'a, R> {
 
     // Row 3: a step of some point is due.
     fn nothing_due(&self) -> Result<(), Refusal>
-        ensures { (e : Maybe Stepping) × Earliest (R.look self.now.register.now) self.now.clock (2 ^ 64) e × (result ≡ passing (first_of (overdue e))) }
+        ensures { (e : Maybe Stepping) × Earliest (R.known self.now.register).look self.now.clock (2 ^ 64) e × (result ≡ passing (first_of (overdue e))) }
     {
-        match earliest(&*self.register, u64::from(self.clock)) {
+        match earliest(&self.register, u64::from(self.clock)) {
             Some(_) => Err(Refusal::StepDue),
             None => Ok(()),
         }
@@ -43,28 +43,17 @@ impl<'a, R: Register> Engine<'a, R> {
 
     // Joins a new point, unless its number is there or has no place.
     fn admit(&mut self, point: Point) -> Result<Answer, Refusal>
-        ensures { (q : Queue) → Passes (newcomer (state_of R.look R.place self.old q) point) (state_of R.look R.place self.old q) result (state_of R.look R.place self.new q) (Accepted (creating point self.old.clock) (state_of R.look R.place self.old q) result (state_of R.look R.place self.new q)) }
+        ensures { (q : Queue) → Passes (newcomer (state_of R.known self.old q) point) (state_of R.known self.old q) result (state_of R.known self.new q) (Accepted (creating point self.old.clock) (state_of R.known self.old q) result (state_of R.known self.new q)) }
     {
-        if self.register.read(point.number).is_some() {
-            return Err(Refusal::AlreadyThere);
-        }
-        if !self.register.add(point) {
-            return Err(Refusal::NoPlace);
-        }
+        self.register.add(point)?;
         Ok(Answer::Done)
     }
 
     // Creates a point, with nobody registered. Whatever the directory says and the outbox holds.
-    pub fn create(
-        &mut self,
-        number: u64,
-        fuel: u64,
-        domestic: u64,
-        status: u64,
-    ) -> Result<Answer, Refusal>
-        ensures { (w : Parties) (q : Queue) → Outcome (Call.Create number fuel domestic status) w (state_of R.look R.place self.old q) result (state_of R.look R.place self.new q) }
+    pub fn create(&mut self, new: NewPoint) -> Result<Answer, Refusal>
+        ensures { (w : Parties) (q : Queue) → Outcome (Call.Create new) w (state_of R.known self.old q) result (state_of R.known self.new q) }
     {
-        let point = limits::new_point(number, fuel, domestic, status)?;
+        let point = limits::new_point(new)?;
         self.nothing_due()?;
         self.admit(point)
     }
@@ -78,15 +67,15 @@ impl<'a, R: Register> Engine<'a, R> {
         clock: u32,
         answer: Answer,
     ) -> Result<Answer, Refusal>
-        requires { is_some (R.look self.old.register.now point.number) ≡ true }
-        ensures { Settled (changing point (listed owed) clock answer) (view_of R.look R.place O.waiting O.room O.size self.old outbox.old) result (view_of R.look R.place O.waiting O.room O.size self.new outbox.new) }
+        requires { is_some ((R.known self.old.register).look point.number) ≡ true }
+        ensures { Settled (changing point owed.items clock answer) (view_of R.known O.queue self.old outbox.old) result (view_of R.known O.queue self.new outbox.new) }
     {
-        let notices = owed.as_slice();
-        if outbox.free() < notices.len() {
+        if outbox.free() < owed.len() {
             return Err(Refusal::OutboxFull);
         }
+        // The point is not absent: it is there already.
         let _ = self.register.replace(point);
-        post(outbox, notices);
+        post(outbox, &owed);
         self.clock = clock;
         Ok(answer)
     }
@@ -96,14 +85,11 @@ impl<'a, R: Register> Engine<'a, R> {
         &mut self,
         directory: &D,
         outbox: &mut O,
-        point: u64,
-        gainer: u64,
-        shipper: u64,
-        start: u64,
+        new: NewRequest,
     ) -> Result<Answer, Refusal>
-        ensures { Outcome (Call.Initial point gainer shipper start) (parties_of D.qualified D.sanctioned D.linked directory.now) (view_of R.look R.place O.waiting O.room O.size self.old outbox.old) result (view_of R.look R.place O.waiting O.room O.size self.new outbox.new) }
+        ensures { Outcome (Call.Initial new) (D.parties directory.now) (view_of R.known O.queue self.old outbox.old) result (view_of R.known O.queue self.new outbox.new) }
     {
-        let asked = Asked::within(point, gainer, shipper, start)?;
+        let asked = Asked::try_from(new)?;
         self.nothing_due()?;
         let point = self.register.read(asked.point).ok_or(Refusal::NoSuchPoint)?;
         let clock = self.clock;
@@ -132,8 +118,8 @@ impl<'a, R: Register> Engine<'a, R> {
         next: Option<Step>,
         moment: u32,
     ) -> Result<Answer, Refusal>
-        requires { Earliest (R.look self.old.register.now) moment (2 ^ 64) next }
-        ensures { Settled (advancing moment self.old.clock next) (view_of R.look R.place O.waiting O.room O.size self.old outbox.old) result (view_of R.look R.place O.waiting O.room O.size self.new outbox.new) }
+        requires { Earliest (R.known self.old.register).look moment (2 ^ 64) next }
+        ensures { Settled (advancing moment self.old.clock next) (view_of R.known O.queue self.old outbox.old) result (view_of R.known O.queue self.new outbox.new) }
     {
         let Some(step) = next else {
             self.clock = moment;
@@ -151,19 +137,19 @@ impl<'a, R: Register> Engine<'a, R> {
 
     // Does the earliest step up to the moment, or else has the clock reach it. Whatever the directory says.
     pub fn advance<O: Outbox>(&mut self, outbox: &mut O, moment: u64) -> Result<Answer, Refusal>
-        ensures { (w : Parties) → Outcome (Call.Advance moment) w (view_of R.look R.place O.waiting O.room O.size self.old outbox.old) result (view_of R.look R.place O.waiting O.room O.size self.new outbox.new) }
+        ensures { (w : Parties) → Outcome (Call.Advance moment) w (view_of R.known O.queue self.old outbox.old) result (view_of R.known O.queue self.new outbox.new) }
     {
         let moment = limits::moment(moment)?;
         if moment < self.clock {
             return Err(Refusal::BeforeClock);
         }
-        let next = earliest(&*self.register, u64::from(moment));
+        let next = earliest(&self.register, u64::from(moment));
         self.proceed(outbox, next, moment)
     }
 
     // Hands out the oldest notice. Whatever the directory says.
     pub fn take<O: Outbox>(&mut self, outbox: &mut O) -> Result<Answer, Refusal>
-        ensures { (w : Parties) → Outcome Call.Take w (view_of R.look R.place O.waiting O.room O.size self.old outbox.old) result (view_of R.look R.place O.waiting O.room O.size self.new outbox.new) }
+        ensures { (w : Parties) → Outcome Call.Take w (view_of R.known O.queue self.old outbox.old) result (view_of R.known O.queue self.new outbox.new) }
     {
         Ok(Answer::Taken(outbox.take()))
     }
@@ -176,21 +162,11 @@ impl<'a, R: Register> Engine<'a, R> {
         outbox: &mut O,
         call: Call,
     ) -> Result<Answer, Refusal>
-        ensures { Outcome call (parties_of D.qualified D.sanctioned D.linked directory.now) (view_of R.look R.place O.waiting O.room O.size self.old outbox.old) result (view_of R.look R.place O.waiting O.room O.size self.new outbox.new) }
+        ensures { Outcome call (D.parties directory.now) (view_of R.known O.queue self.old outbox.old) result (view_of R.known O.queue self.new outbox.new) }
     {
         match call {
-            Call::Create {
-                number,
-                fuel,
-                domestic,
-                status,
-            } => self.create(number, fuel, domestic, status),
-            Call::Initial {
-                point,
-                gainer,
-                shipper,
-                start,
-            } => self.initial(directory, outbox, point, gainer, shipper, start),
+            Call::Create(new) => self.create(new),
+            Call::Initial(new) => self.initial(directory, outbox, new),
             Call::Advance { moment } => self.advance(outbox, moment),
             Call::Take => self.take(outbox),
         }

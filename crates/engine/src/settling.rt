@@ -5,12 +5,13 @@ use market::{Notice, Outbox};
 
 // Puts the notices, for which there is room, at the end of the outbox.
 pub(crate) fn post<O: Outbox>(outbox: &mut O, notices: &[Notice])
-    requires { length notices.now ≤ O.room outbox.old }
-    ensures waiting { O.waiting outbox.new ≡ O.waiting outbox.old ++ notices.now }
-    ensures room { O.room outbox.new ≡ O.room outbox.old - length notices.now }
-    ensures size { O.size outbox.new ≡ O.size outbox.old }
+    requires { length notices.now ≤ (O.queue outbox.old).room }
+    ensures waiting { (O.queue outbox.new).waiting ≡ (O.queue outbox.old).waiting ++ notices.now }
+    ensures room { (O.queue outbox.new).room ≡ (O.queue outbox.old).room - length notices.now }
+    ensures size { (O.queue outbox.new).size ≡ (O.queue outbox.old).size }
 {
-    for i in 0..notices.len() {
-        let _ = outbox.put(notices[i]);
+    for notice in notices {
+        // It is not full: there is room for each of them.
+        let _ = outbox.put(*notice);
     }
 }
