@@ -3,7 +3,8 @@ use Rattle.std.proofs.Common.{◌≡◌, ℕ, List, Some, None, Ok, Err, Option,
 use Rattle.market.specs.declared.refusals.Refusal.{Refusal}
 use Rattle.market.specs.declared.refusals.Refusal.TheVariants.{OutsideLimits}
 use Rattle.rules.specs.Limits.{or_outside}
-use Rattle.rules.specs.Rows.{Row, first_of, passing, Parties}
+use Rattle.market.specs.Stores.{Parties}
+use Rattle.rules.specs.Rows.{Row, first_of, passing}
 use Rattle.engine.specs.declared.calls.Answer.{Answer}
 use Rattle.engine.specs.declared.calls.Call.{Call}
 use Rattle.engine.specs.Effects.{Effect}

@@ -10,9 +10,7 @@ pub enum Call {
     // A request for a point that has no supplier.
     Initial(NewRequest),
     // The earliest step up to the moment, or else the clock moves there.
-    Advance {
-        moment: u64,
-    },
+    Advance { moment: u64 },
     // The oldest waiting notice.
     Take,
 }

@@ -13,7 +13,9 @@ ghost use Rattle.engine.specs.State.{state_of, view_of};
 use crate::calls::{Answer, Call};
 use crate::settling::post;
 use agenda::earliest;
-use market::{Calendar, Directory, NewPoint, NewRequest, NoticeKind, Outbox, Point, Refusal, Register};
+use market::{
+    Calendar, Directory, NewPoint, NewRequest, NoticeKind, Outbox, Point, Refusal, Register,
+};
 use rules::{Asked, Audience, Mailing, Owed, Step, limits, rows};
 
 #[derive(Drop)]

@@ -1,9 +1,12 @@
 use Rattle.std.proofs.Common.{◌≡◌, ◌-◌, ◌++◌, take}
 use Rattle.engine.proofs.settling.post.Given as goal
 
-abbrev pub invariant-loop-i : goal.invariant-loop-i
-invariant-loop-i g l =
-    let o = g.O.Outbox in
-    (o.waiting l.outbox ≡ o.waiting l.initial.outbox ++ take l.i l.notices)
-    × (o.room l.outbox ≡ o.room l.initial.outbox - l.i)
-    × (o.size l.outbox ≡ o.size l.initial.outbox)
+-- the notices so far wait
+abbrev pub invariant-loop-notice : goal.invariant-loop-notice
+invariant-loop-notice g l =
+    let queue = g.O.Outbox.queue in
+    record {
+      waiting : (queue l.outbox).waiting ≡ (queue l.initial.outbox).waiting ++ take l.notice-index l.notices;
+      room : (queue l.outbox).room ≡ (queue l.initial.outbox).room - l.notice-index;
+      size : (queue l.outbox).size ≡ (queue l.initial.outbox).size;
+    }
