@@ -3,46 +3,28 @@ use Rattle.std.proofs.Common.{◌≡◌, ℕ, List, Some, None, Ok, Err, Option,
 use Rattle.market.specs.declared.refusals.Refusal.{Refusal}
 use Rattle.market.specs.declared.refusals.Refusal.TheVariants.{OutsideLimits}
 use Rattle.rules.specs.Limits.{or_outside}
-use Rattle.market.specs.Stores.{Parties}
 use Rattle.rules.specs.Rows.{Row, first_of, passing}
 use Rattle.engine.specs.declared.calls.Answer.{Answer}
-use Rattle.engine.specs.declared.calls.Call.{Call}
 use Rattle.engine.specs.Effects.{Effect}
-use Rattle.engine.specs.Outcome.{Unchanged, Needs, Unless, Passes, Settled, Outcome}
+use Rattle.engine.specs.Outcome.{Unchanged, Needs, Unless, Passes, Settled}
 use Rattle.engine.specs.State.{State}
 
 pub unchanged : (s : State) → Unchanged s s
 unchanged s = record { points = λ k. refl; places = λ k. refl; clock = refl; queue = refl }
 
 module _ {X : Type 0} (o : Option X) (s : State) (r : Result Answer Refusal) (t : State) (Next : X → Type 0) where
-  -- the numbers are outside their limits
-  pub outside : (e : Refusal) → Err e ≡ or_outside o → r ≡ Err e → Unchanged s t → Needs OutsideLimits o s r t Next
-  outside e h is u = elim o as (λ v. Err e ≡ or_outside v → Needs OutsideLimits v s r t Next) [
-    | None ↦ λ g. let same : e ≡ OutsideLimits = cc in (is ∙ (λ i. Err (same i)), u)
-    | Some x ↦ λ g. absurd (let z : ◌≡◌ {A = ℕ} 0 1 = cc in omega arith)
-  ] h
-
-  -- they are within
+  -- the numbers are within their limits
   pub inside : (x : X) → Ok x ≡ or_outside o → Next x → Needs OutsideLimits o s r t Next
   inside x h n = elim o as (λ v. Ok x ≡ or_outside v → Needs OutsideLimits v s r t Next) [
     | None ↦ λ g. absurd (let z : ◌≡◌ {A = ℕ} 0 1 = cc in omega arith)
     | Some y ↦ λ g. let same : x ≡ y = cc in subst Next same n
   ] h
 
-  pub absent : (q : Refusal) → o ≡ None → r ≡ Err q → Unchanged s t → Needs q o s r t Next
-  absent q h is u = subst (λ v. Needs q v s r t Next) (sym h) (is, u)
-
   pub present : (q : Refusal) (x : X) → o ≡ Some x → Next x → Needs q o s r t Next
   present q x h n = subst (λ v. Needs q v s r t Next) (sym h) n
 
 module _ (rows : List Row) (s : State) (r : Result Answer Refusal) (t : State) (Next : Type 0) where
-  pub stopped : (q : Refusal) → first_of rows ≡ Some q → r ≡ Err q → Unchanged s t → Passes rows s r t Next
-  stopped q h is u = subst (λ v. Unless v s r t Next) (sym h) (is, u)
-
-  pub let_pass : first_of rows ≡ None → Next → Passes rows s r t Next
-  let_pass h n = subst (λ v. Unless v s r t Next) (sym h) n
-
-  -- the same from a function that checks the rows
+  -- from a function that checks the rows
   pub stopped_by : (q : Refusal) → Err q ≡ passing (first_of rows) → r ≡ Err q → Unchanged s t → Passes rows s r t Next
   stopped_by q h is u = elim (first_of rows) as (λ v. Err q ≡ passing v → Unless v s r t Next) [
     | None ↦ λ g. absurd (let z : ◌≡◌ {A = ℕ} 0 1 = cc in omega arith)
@@ -55,9 +37,6 @@ module _ (rows : List Row) (s : State) (r : Result Answer Refusal) (t : State) (
     | Some p ↦ λ g. absurd (let z : ◌≡◌ {A = ℕ} 0 1 = cc in omega arith)
   ] h
 
--- the same call, and the same effect, said in another way
-pub at_call : (k l : Call) (w : Parties) (s : State) (r : Result Answer Refusal) (t : State) → k ≡ l → Outcome l w s r t → Outcome k w s r t
-at_call k l w s r t h o = subst (λ x. Outcome x w s r t) (sym h) o
-
+-- the same effect, said in another way
 pub at_effect : (d e : Effect) (s : State) (r : Result Answer Refusal) (t : State) → d ≡ e → Settled d s r t → Settled e s r t
 at_effect d e s r t h o = subst (λ x. Settled x s r t) h o
