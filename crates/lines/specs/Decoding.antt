@@ -16,10 +16,10 @@ use Rattle.words.specs.Words.{words}
 
 -- the command that a verb gives with its numbers
 abbrev pub make_of : Verb → List ℕ → Command
-make_of v.Party ns = Party (slice_index ns 0) (slice_index ns 1) (slice_index ns 2) (slice_index ns 3)
-make_of v.Link ns = Link (slice_index ns 0) (slice_index ns 1)
-make_of v.Point ns = Call (call.Create (slice_index ns 0) (slice_index ns 1) (slice_index ns 2) (slice_index ns 3))
-make_of v.Initial ns = Call (call.Initial (slice_index ns 0) (slice_index ns 1) (slice_index ns 2) (slice_index ns 3))
+make_of v.Party ns = Party (record { number = slice_index ns 0; role = slice_index ns 1; qualified = slice_index ns 2; sanctioned = slice_index ns 3 })
+make_of v.Link ns = Link (record { supplier = slice_index ns 0; shipper = slice_index ns 1 })
+make_of v.Point ns = Call (call.Create (record { number = slice_index ns 0; fuel = slice_index ns 1; domestic = slice_index ns 2; status = slice_index ns 3 }))
+make_of v.Initial ns = Call (call.Initial (record { point = slice_index ns 0; gainer = slice_index ns 1; shipper = slice_index ns 2; start = slice_index ns 3 }))
 make_of v.Advance ns = Call (call.Advance (slice_index ns 0))
 make_of v.Take ns = Call call.Take
 

@@ -1,20 +1,13 @@
 // What a line can ask, with its numbers as received, whatever they are.
 use engine::Call;
+use market::{NewLink, NewParty};
 
-#[derive(Clone, Copy, PartialEq, Eq)]
+#[derive(Clone, Copy, Debug, PartialEq, Eq)]
 pub enum Command {
     // What the directory knows of a party in a role.
-    Party {
-        number: u64,
-        role: u64,
-        qualified: u64,
-        sanctioned: u64,
-    },
+    Party(NewParty),
     // The shipper ships for the supplier.
-    Link {
-        supplier: u64,
-        shipper: u64,
-    },
+    Link(NewLink),
     // A call of the engine.
     Call(Call),
 }

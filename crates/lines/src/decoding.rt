@@ -6,6 +6,7 @@ ghost use Rattle.lines.specs.Decoding.{fields_of, command_of, decoded, accepted}
 use crate::commands::Command;
 use crate::verbs::Verb;
 use engine::Call;
+use market::{NewLink, NewParty, NewPoint, NewRequest};
 use words::{FeedFault, LineFault, Reader, number};
 
 // The most bytes that a line may have.
@@ -36,34 +37,34 @@ fn command(verb: Verb, reader: Reader<'_>) -> Result<Command, LineFault>
     match verb {
         Verb::Party => {
             let [number, role, qualified, sanctioned] = fields::<4>(reader)?;
-            Ok(Command::Party {
+            Ok(Command::Party(NewParty {
                 number,
                 role,
                 qualified,
                 sanctioned,
-            })
+            }))
         }
         Verb::Link => {
             let [supplier, shipper] = fields::<2>(reader)?;
-            Ok(Command::Link { supplier, shipper })
+            Ok(Command::Link(NewLink { supplier, shipper }))
         }
         Verb::Point => {
             let [number, fuel, domestic, status] = fields::<4>(reader)?;
-            Ok(Command::Call(Call::Create {
+            Ok(Command::Call(Call::Create(NewPoint {
                 number,
                 fuel,
                 domestic,
                 status,
-            }))
+            })))
         }
         Verb::Initial => {
             let [point, gainer, shipper, start] = fields::<4>(reader)?;
-            Ok(Command::Call(Call::Initial {
+            Ok(Command::Call(Call::Initial(NewRequest {
                 point,
                 gainer,
                 shipper,
                 start,
-            }))
+            })))
         }
         Verb::Advance => {
             let [moment] = fields::<1>(reader)?;
