@@ -1,18 +1,22 @@
 -- Points in the order of their arrival, as a look-up by number.
-use Rattle.std.proofs.Common.{◌≡◌, ℕ, zero, suc, ◌+◌, ◌<◌, ◌≤◌, true, false, cond, not, ◌&&◌, eqb, ltb, leb, List, [], ◌∷◌, ◌++◌, length, get_or, take, set, is_some, Some, None, Option, sym, refl, ap, ◌∙◌, subst, ⊎_elim, arith, MatchOption}
-use Rattle.std.proofs.lemmas.List.{take_more, take_more_set, length-take-le, get_or-take, get_or_default}
+use Rattle.std.proofs.Common.{◌≡◌, ℕ, zero, suc, ◌+◌, ◌<◌, ◌≤◌, false, cond, not, ◌&&◌, eqb, ltb, leb, List, [], ◌∷◌, ◌++◌, length, get_or, take, set, is_some, Some, None, Ok, Err, Option, sym, refl, ap, ◌∙◌, subst, ⊎_elim, arith, MatchOption}
+use Rattle.std.proofs.lemmas.List.{take_more, take_more_set, length-set, length-take-le, get_or_default}
 use Rattle.std.proofs.lemmas.Bool.{cases_lt, cond_both, leb-true, leb-false, ltb-true, and_parts}
 use Rattle.std.proofs.lemmas.Bool.Decides.{nat_tests}
-use Rattle.market.specs.Looks.{put_at, Lowest, LowestFrom}
+use Rattle.market.specs.Looks.{Lowest, LowestFrom}
+use Rattle.market.specs.Stores.{Added, Replaced}
+use Rattle.market.specs.declared.refusals.AddError.TheVariants.{AlreadyThere}
 use Rattle.market.specs.declared.points.Point.{Point}
-use Rattle.tables.proofs.Below.{numbers_ordered}
+use Rattle.std.proofs.lemmas.Cmp.{nat_cmp_total}
+use Rattle.std.specs.Ordering.{nat_cmp, is_eq}
 use Rattle.tables.proofs.Listed.{find_at, find_none, find-swap, swap_at}
 use Rattle.market.proofs.Lists.{set-take, not_some, free_none}
 use Rattle.tables.specs.Keys.{swap}
-use Rattle.tables.specs.Orders.{alike}
 use Rattle.tables.specs.Points.{number_of}
-use Rattle.registers.specs.Points.{point_in}
-use Rattle.registers.specs.Arrivals.{apart, Apart, At, lower}
+use Rattle.tables.specs.Tables.{Records}
+use Rattle.registers.specs.Points.{point_in, points_of}
+use Rattle.registers.proofs.Sought.{added, replaced}
+use Rattle.registers.specs.Arrivals.{apart, Apart, Stands, lower}
 
 -- ---- a point that comes last
 find_last : (k : ℕ) (xs : List Point) (p : Point) → point_in (xs ++ p ∷ []) k ≡ cond (is_some (point_in xs k)) (point_in xs k) (cond (eqb p.number k) (Some p) None)
@@ -32,21 +36,25 @@ apart_last (x ∷ xs) p a none =
     grind (arith, nat_tests)
 
 -- ---- a point in the place of another of its number
-pub apart-swap : (p : Point) (xs : List Point) → apart (swap number_of ltb p xs) ≡ apart xs
+pub apart-swap : (p : Point) (xs : List Point) → apart (swap number_of nat_cmp p xs) ≡ apart xs
 apart-swap p [] = refl
 apart-swap p (y ∷ ys) =
     let ih = apart-swap p ys in
-    let put = find-swap number_of ltb numbers_ordered p ys y.number in
+    let put = find-swap number_of nat_cmp nat_cmp_total p ys y.number in
     let same = ap (λ k. is_some (point_in ys k)) {x = p.number} {y = y.number} in
     grind (arith, nat_tests)
 
+length_swap : (p : Point) (xs : List Point) → length (swap number_of nat_cmp p xs) ≡ length xs
+length_swap p [] = refl
+length_swap p (y ∷ ys) = let ih = length_swap p ys in grind arith
+
 -- ---- by places
-none_at : (k : ℕ) (xs : List Point) → point_in xs k ≡ None → (j : ℕ) (d : Point) → j < length xs → alike ltb (get_or xs j d).number k ≡ false
+none_at : (k : ℕ) (xs : List Point) → point_in xs k ≡ None → (j : ℕ) (d : Point) → j < length xs → is_eq (nat_cmp (get_or xs j d).number k) ≡ false
 none_at k [] h j d l = absurd (omega arith)
 none_at k (x ∷ xs) h zero d l = grind arith
 none_at k (x ∷ xs) h (suc j) d l = let rest : point_in xs k ≡ None = grind arith in none_at k xs rest j d (omega arith)
 
-unlike : (xs : List Point) → Apart xs → (i j : ℕ) (d e : Point) → j < i → i < length xs → alike ltb (get_or xs j e).number (get_or xs i d).number ≡ false
+unlike : (xs : List Point) → Apart xs → (i j : ℕ) (d e : Point) → j < i → i < length xs → is_eq (nat_cmp (get_or xs j e).number (get_or xs i d).number) ≡ false
 unlike [] a i j d e m l = absurd (omega arith)
 unlike (x ∷ xs) a zero j d e m l = absurd (omega arith)
 unlike (x ∷ xs) a (suc i) zero d e m l =
@@ -55,64 +63,80 @@ unlike (x ∷ xs) a (suc i) zero d e m l =
 unlike (x ∷ xs) a (suc i) (suc j) d e m l = unlike xs (next x xs a).1 i j d e (omega arith) (omega arith)
 
 -- ---- a walk for the number k, when it has passed the first i points
+pub record At (xs : List Point) (k i : ℕ) : Type 0 where
+  pub within : i < length xs
+  pub same : (d : Point) → (get_or xs i d).number ≡ k
+
 abbrev pub Walked : List Point → ℕ → ℕ → Option ℕ → Type 0
-Walked xs k i o = MatchOption o ((j : ℕ) (d : Point) → j < i → (get_or xs j d).number ≡ k → ⊥) (At xs i k)
+Walked xs k i o = MatchOption o ((j : ℕ) (d : Point) → j < i → (get_or xs j d).number ≡ k → ⊥) (λ at. (at < i) × At xs k at)
 
 module _ (xs : List Point) (k i : ℕ) (d : Point) (l : i < length xs) where
-  pub walk_hit : (get_or xs i d).number ≡ k → At xs (i + 1) k i
-  walk_hit h = record { within = omega arith; same = λ e. ap number_of (get_or_default xs i e d l) ∙ h }
+  pub walk_hit : (get_or xs i d).number ≡ k → Walked xs k (i + 1) (Some i)
+  walk_hit h = (omega arith, record { within = l; same = λ e. ap number_of (get_or_default xs i e d l) ∙ h })
 
   pub walk_past : (o : Option ℕ) → ((get_or xs i d).number ≡ k → ⊥) → Walked xs k i o → Walked xs k (i + 1) o
   walk_past None h w = λ j e m.
       ⊎_elim (λ b. w j e b)
       (λ a same. let is : j ≡ i = omega arith in h (ap number_of (get_or_default xs i d e l) ∙ ap (λ z. (get_or xs z e).number) (sym is) ∙ same))
       (cases_lt j i)
-  walk_past (Some j) h w = let m = w.within in record { within = omega arith; same = w.same }
+  walk_past (Some j) h w = let m = w.0 in (omega arith, w.1)
 
-module _ (xs : List Point) (n : ℕ) (fits : n ≤ length xs) where
-  none_upto : (k : ℕ) → ((j : ℕ) (d : Point) → j < n → (get_or xs j d).number ≡ k → ⊥) → point_in (take n xs) k ≡ None
-  none_upto k h =
-      let long = length-take-le n xs fits in
-      find_none number_of ltb numbers_ordered k (take n xs) (λ j d l. let same = ap number_of (get_or-take n xs j d (omega arith)) in let no = h j d (omega arith) in grind (arith, nat_tests))
+module _ (xs : List Point) (a : Apart xs) (k : ℕ) where
+  before : (i : ℕ) → At xs k i → (j : ℕ) (e : Point) → j < i → is_eq (nat_cmp (get_or xs j e).number k) ≡ false
+  before i at j e m = subst (λ z. is_eq (nat_cmp (get_or xs j e).number z) ≡ false) (at.same e) (unlike xs a i j e e m at.within)
 
-  pub walk_done : (k : ℕ) (o : Option ℕ) → Walked xs k n o → MatchOption o (point_in (take n xs) k ≡ None) (At xs n k)
-  walk_done k None w = none_upto k w
-  walk_done k (Some i) w = w
+  stands : (i : ℕ) → At xs k i → Stands xs k i
+  stands i at = record {
+    within = at.within;
+    named = at.same;
+    there = λ d. find_at number_of nat_cmp k xs i d at.within (let same = at.same d in grind (arith, nat_tests)) (before i at);
+    changed = λ p e. sym (swap_at number_of nat_cmp p xs i p at.within (let same = at.same p in grind (arith, nat_tests)) (λ j d m. subst (λ z. is_eq (nat_cmp (get_or xs j d).number z) ≡ false) (sym e) (before i at j d m)));
+  }
 
-  module _ (a : Apart (take n xs)) (k i : ℕ) (at : At xs n k i) where
-    at_held : (d : Point) → (get_or (take n xs) i d).number ≡ k
-    at_held d = ap number_of (get_or-take n xs i d at.within) ∙ at.same d
+  none_there : Walked xs k (length xs) None → point_in xs k ≡ None
+  none_there w = find_none number_of nat_cmp k xs (λ j d l. let no = w j d l in grind (arith, nat_tests))
 
-    before : (j : ℕ) (e : Point) → j < i → alike ltb (get_or (take n xs) j e).number k ≡ false
-    before j e m =
-        let long = length-take-le n xs fits in
-        let l = at.within in
-        subst (λ z. alike ltb (get_or (take n xs) j e).number z ≡ false) (at_held e) (unlike (take n xs) a i j e e m (omega arith))
+  pub walk_done : (o : Option ℕ) → Walked xs k (length xs) o → MatchOption o (point_in xs k ≡ None) (Stands xs k)
+  walk_done None w = none_there w
+  walk_done (Some i) w = stands i w.1
 
-    pub look_at : (d : Point) → point_in (take n xs) k ≡ Some (get_or xs i d)
-    look_at d =
-        let long = length-take-le n xs fits in
-        let l = at.within in
-        find_at number_of ltb numbers_ordered k (take n xs) i d (omega arith) (at_held d) before ∙ ap Some (get_or-take n xs i d l)
+-- ---- an addition and a replacement, where the first n points are held
+pub there_already : (t : Records Point) (p : Point) (i : ℕ) → Stands t.items p.number i → Added p (Err AlreadyThere) (points_of t) (points_of t)
+there_already t p i h = record { value = rw (h.there p) refl; after = λ k. refl; shrinks = λ k e. e; refused = λ no k. refl }
 
-    pub swap_placed : (p : Point) → p.number ≡ k → take n (set xs i p) ≡ swap number_of ltb p (take n xs)
-    swap_placed p e =
-        let long = length-take-le n xs fits in
-        let l = at.within in
-        sym (set-take n xs i p)
-        ∙ sym (swap_at number_of ltb numbers_ordered p (take n xs) i p (omega arith) (at_held p ∙ sym e) (λ j d m. subst (λ z. alike ltb (get_or (take n xs) j d).number z ≡ false) (sym e) (before j d m)))
+module _ (xs : List Point) (n : ℕ) (fits : n ≤ length xs) (a : Apart (take n xs)) (t : Records Point) (held : record { items = take n xs; room = length xs } ≡ t) (p : Point) where
+  pub apart_add : (n ≡ length xs → ⊥) → point_in t.items p.number ≡ None → (n + 1 ≤ length (set xs n p)) × Apart (take (n + 1) (set xs n p))
+  apart_add free none =
+      let absent : point_in (take n xs) p.number ≡ None = subst (λ u. point_in u.items p.number ≡ None) (sym held) none in
+      let long = length-set xs n p in
+      (omega (arith, long), subst Apart (sym (take_more_set xs n p (omega arith))) (apart_last (take n xs) p a absent))
 
--- ---- after an addition
-module _ (xs : List Point) (n : ℕ) (p : Point) (l : n < length xs) (none : point_in (take n xs) p.number ≡ None) where
-  pub apart_add : Apart (take n xs) → Apart (take (n + 1) (set xs n p))
-  apart_add a = subst Apart (sym (take_more_set xs n p l)) (apart_last (take n xs) p a none)
+  pub joined : (n ≡ length xs → ⊥) → point_in t.items p.number ≡ None → Added p (Ok tt) (points_of t) (points_of (record { items = take (n + 1) (set xs n p); room = length (set xs n p) }))
+  joined free = subst (λ u. point_in u.items p.number ≡ None → Added p (Ok tt) (points_of u) (points_of (record { items = take (n + 1) (set xs n p); room = length (set xs n p) }))) held
+      (λ none.
+      let few = length-take-le n xs fits in
+      let more = length-take-le (n + 1) (set xs n p) (omega (arith, length-set xs n p)) in
+      let gone = λ (k : ℕ). not_some (point_in (take n xs) k) in
+      added p (record { items = take n xs; room = length xs }) (record { items = take (n + 1) (set xs n p); room = length (set xs n p) }) (length-set xs n p) (Ok tt)
+      (rw none (let room = few in grind (arith, nat_tests)))
+      (λ k. ap (λ ys. point_in ys k) (take_more_set xs n p (omega arith)) ∙ find_last k (take n xs) p ∙ (let same = ap (point_in (take n xs)) {x = p.number} {y = k} in let none_at = not_some (point_in (take n xs) k) in grind (arith, nat_tests)))
+      (omega (arith, few, more)))
 
-  pub look_last : (k : ℕ) → point_in (take (n + 1) (set xs n p)) k ≡ put_at true p (point_in (take n xs)) k
-  look_last k =
-      let last = ap (λ ys. point_in ys k) (take_more_set xs n p l) ∙ find_last k (take n xs) p in
-      let same = ap (point_in (take n xs)) {x = p.number} {y = k} in
-      let gone = not_some (point_in (take n xs) k) in
-      grind (arith, nat_tests)
+  module _ (i : ℕ) (at : Stands t.items p.number i) where
+    swapped : take n (set xs i p) ≡ swap number_of nat_cmp p (take n xs)
+    swapped = subst (λ u. Stands u.items p.number i → take n (set xs i p) ≡ swap number_of nat_cmp p u.items → take n (set xs i p) ≡ swap number_of nat_cmp p (take n xs)) held (λ _ e. e) at (sym (set-take n xs i p) ∙ subst (λ u. set u.items i p ≡ swap number_of nat_cmp p t.items) (sym held) (at.changed p refl))
+
+    pub apart_replace : (n ≤ length (set xs i p)) × Apart (take n (set xs i p))
+    apart_replace = (omega (arith, length-set xs i p), ap apart swapped ∙ apart-swap p (take n xs) ∙ a)
+
+    pub put : Replaced p (Ok tt) (points_of t) (points_of (record { items = take n (set xs i p); room = length (set xs i p) }))
+    put =
+        let r : point_in (take n xs) p.number ≡ Some (get_or t.items i p) = subst (λ u. point_in u.items p.number ≡ Some (get_or t.items i p)) (sym held) (at.there p) in
+        subst (λ u. Replaced p (Ok tt) (points_of u) (points_of (record { items = take n (set xs i p); room = length (set xs i p) }))) held
+        (replaced p (record { items = take n xs; room = length xs }) (record { items = take n (set xs i p); room = length (set xs i p) }) (length-set xs i p) (Ok tt)
+        (rw r refl)
+        (λ k. ap (λ ys. point_in ys k) swapped ∙ find-swap number_of nat_cmp nat_cmp_total p (take n xs) k ∙ (rw r refl))
+        (ap length swapped ∙ length_swap p (take n xs)))
 
 -- ---- one turn of the walk for the lowest
 module _ (f g : ℕ → Option Point) (x : Point) (more : (k : ℕ) → g k ≡ cond (is_some (f k)) (f k) (cond (eqb x.number k) (Some x) None)) (n : ℕ) where

@@ -1,84 +1,61 @@
--- Points in the order of their numbers, as a look-up by number.
-use Rattle.std.proofs.Common.{◌≡◌, ℕ, ◌<◌, ◌≤◌, Bool, true, false, cond, ◌&&◌, ltb, List, [], ◌∷◌, length, is_some, IfSome, Some, None, Option, sym, refl, ap, ◌∙◌, arith}
-use Rattle.std.proofs.lemmas.Bool.{cond_both, ltb-true, ltb-false, both_ways, and_parts}
+-- Points of a list as a register: a look-up by number, and what an addition and a replacement do to it.
+use Rattle.std.proofs.Common.{◌≡◌, ℕ, ◌+◌, Bool, true, false, cond, not, ◌&&◌, ltb, List, [], ◌∷◌, length, is_some, is_ok, IfSome, Some, None, Option, Result, refl, ap, ◌∙◌, arith}
+use Rattle.std.proofs.lemmas.Bool.{cond_both}
 use Rattle.std.proofs.lemmas.Bool.Decides.{nat_tests}
+use Rattle.std.specs.Ordering.{nat_cmp, is_eq}
 use Rattle.market.specs.Looks.{put_at, LowestFrom}
+use Rattle.market.specs.Stores.{addition, Added, Replaced}
 use Rattle.market.specs.declared.points.Point.{Point}
-use Rattle.market.proofs.Lists.{not_some, free_none}
-use Rattle.tables.proofs.Below.{numbers_ordered, numbers_alike}
-use Rattle.tables.proofs.Listed.{find-join, find-swap, find_named, length-join, length-swap}
-use Rattle.tables.specs.Keys.{seek, join, swap, below_all}
+use Rattle.market.specs.declared.refusals.AddError.{AddError}
+use Rattle.market.specs.declared.refusals.Absent.{Absent}
+use Rattle.tables.proofs.Orders.{numbers_alike}
+use Rattle.tables.specs.Places.{IsFirstFrom}
 use Rattle.tables.specs.Points.{number_of}
-use Rattle.registers.specs.Points.{InOrder, point_in, place_in}
+use Rattle.tables.specs.Tables.{Records}
+use Rattle.registers.specs.Points.{point_in, points_of}
 
--- a place is only where nothing is found
-pub absent : (xs : List Point) (n k : ℕ) (r : Bool) → r ≡ place_in xs n k → r ≡ true → point_in xs k ≡ None
-absent xs n k r e t = free_none _ _ (sym t ∙ e)
+has_number : (p : Point) (k : ℕ) → is_eq (nat_cmp p.number k) ≡ true → p.number ≡ k
+has_number p k e = grind (arith, nat_tests)
 
 -- a point that was found has the number asked for
-pub named : (xs : List Point) (k : ℕ) (r : Option Point) → r ≡ point_in xs k → IfSome r (λ p. p.number ≡ k)
-named xs k None h = tt
-named xs k (Some p) h = find_named number_of ltb numbers_ordered k xs p (sym h)
+pub named : (xs : List Point) (k : ℕ) → IfSome (point_in xs k) (λ p. p.number ≡ k)
+named [] k = tt
+named (x ∷ xs) k = cond_both (is_eq (nat_cmp x.number k)) (Some x) (point_in xs k) (λ r. IfSome r (λ p. p.number ≡ k)) (has_number x k) (λ _. named xs k)
 
-look-join : (p : Point) (xs : List Point) (k : ℕ) → point_in xs p.number ≡ None → point_in (join number_of ltb p xs) k ≡ put_at true p (point_in xs) k
-look-join p xs k none = find-join number_of ltb numbers_ordered p xs k none ∙ ap (λ b. cond b (Some p) (point_in xs k)) (numbers_alike p.number k)
-
--- every number after an addition, and after a replacement
-pub look_add : (p : Point) (xs ys : List Point) (n : ℕ) (r : Bool) → r ≡ place_in xs n p.number → ys ≡ cond r (join number_of ltb p xs) xs → (k : ℕ) → point_in ys k ≡ put_at r p (point_in xs) k
-look_add p xs ys n true told holds k = ap (λ l. point_in l k) holds ∙ look-join p xs k (free_none _ _ told)
-look_add p xs ys n false told holds k = ap (λ l. point_in l k) holds
-
-pub look-swap : (p : Point) (xs ys : List Point) (r : Bool) → r ≡ is_some (point_in xs p.number) → ys ≡ swap number_of ltb p xs → (k : ℕ) → point_in ys k ≡ put_at r p (point_in xs) k
-look-swap p xs ys r told holds k =
-    ap (λ l. point_in l k) holds ∙ find-swap number_of ltb numbers_ordered p xs k
-    ∙ ap (λ b. cond (is_some (point_in xs p.number) && b) (Some p) (point_in xs k)) (numbers_alike p.number k)
-    ∙ ap (λ b. put_at b p (point_in xs) k) (sym told)
-
--- ---- the lowest from a number on
-found_above : (k : ℕ) (y : Point) (ys : List Point) → below_all number_of ltb y.number ys ≡ true → is_some (point_in ys k) ≡ true → y.number < k
-found_above k y [] up there = grind arith
-found_above k y (z ∷ zs) up there = let ih = found_above k y zs in grind (arith, nat_tests)
-
-past : (x : Point) (xs : List Point) (n : ℕ) (o : Option Point) → x.number < n → LowestFrom (point_in xs) n o → LowestFrom (point_in (x ∷ xs)) n o
-past x xs n None l h = λ k a. let none = h k a in grind (arith, nat_tests)
-past x xs n (Some p) l h = record {
-  from = h.from;
-  there = let t = h.there in let f = h.from in grind (arith, nat_tests);
-  none = λ k a b. let none = h.none k a b in grind (arith, nat_tests);
+-- the first from a number on is the lowest
+pub lowest_first : (xs : List Point) (n : ℕ) (r : Option Point) → IsFirstFrom number_of nat_cmp xs n r → LowestFrom (point_in xs) n r
+lowest_first xs n None h = λ k le. h k (grind (arith, nat_tests))
+lowest_first xs n (Some p) h = record {
+  from = let first = h.0 in grind (arith, nat_tests);
+  there = h.1;
+  none = λ k le lt. h.2 k (grind (arith, nat_tests)) (grind (arith, nat_tests));
 }
 
-pub look-seek : (n : ℕ) (xs : List Point) → InOrder xs → LowestFrom (point_in xs) n (seek number_of ltb n xs)
-look-seek n [] up = λ k h. refl
-look-seek n (x ∷ xs) up =
-    cond_both (ltb x.number n) (seek number_of ltb n xs) (Some x) (LowestFrom (point_in (x ∷ xs)) n)
-    (λ e. past x xs n (seek number_of ltb n xs) (ltb-true _ _ e) (look-seek n xs (and_parts _ _ up).1))
-    (λ e. record {
-      from = ltb-false _ _ e;
-      there = grind (arith, nat_tests);
-      none = λ k a b. let above = found_above k x xs (and_parts _ _ up).0 in let none = not_some (point_in xs k) in grind (arith, nat_tests);
-    })
+-- a number is free of a point where it has a place, so a place decides as room does
+room_for : (o : Option Point) (b : Bool) → addition o b ≡ addition o (not (is_some o) && b)
+room_for None b = refl
+room_for (Some p) b = refl
 
--- ---- the places after an addition, in whatever order, and after a replacement
 some_put : (r : Bool) (p : Point) (f : ℕ → Option Point) (k : ℕ) → is_some (put_at r p f k) ≡ false → is_some (f k) ≡ false
 some_put r p f k h = grind (arith, nat_tests)
 
-pub shrinks : (p : Point) (xs ys : List Point) (n m : ℕ) (r : Bool) → ((k : ℕ) → point_in ys k ≡ put_at r p (point_in xs) k) → length xs ≤ length ys → m ≡ n → (k : ℕ) → place_in ys m k ≡ true → place_in xs n k ≡ true
-shrinks p xs ys n m r after long size k h =
-    let put = ap is_some (after k) in
-    let less = some_put r p (point_in xs) k in
-    grind (arith, nat_tests)
+module _ (p : Point) (t u : Records Point) (room : u.room ≡ t.room) where
+  by_number : (r : Bool) → ((k : ℕ) → point_in u.items k ≡ cond (r && is_eq (nat_cmp p.number k)) (Some p) (point_in t.items k)) → (k : ℕ) → point_in u.items k ≡ put_at r p (point_in t.items) k
+  by_number r h k = h k ∙ ap (λ b. cond (r && b) (Some p) (point_in t.items k)) (numbers_alike p.number k)
 
-pub no_fewer : (p : Point) (xs ys : List Point) (r : Bool) → ys ≡ cond r (join number_of ltb p xs) xs → length xs ≤ length ys
-no_fewer p xs ys true holds = let long = ap length holds ∙ length-join number_of ltb numbers_ordered p xs in omega arith
-no_fewer p xs ys false holds = let long = ap length holds in omega arith
+  -- the point joined, or all stayed
+  pub added : (r : Result (Unit {0}) AddError) → r ≡ addition (point_in t.items p.number) (ltb (length t.items) t.room) → ((k : ℕ) → point_in u.items k ≡ cond (is_ok r && is_eq (nat_cmp p.number k)) (Some p) (point_in t.items k)) → length u.items ≡ cond (is_ok r) (length t.items + 1) (length t.items) → Added p r (points_of t) (points_of u)
+  added r told keyed count = record {
+    value = told ∙ room_for (point_in t.items p.number) (ltb (length t.items) t.room);
+    after = by_number (is_ok r) keyed;
+    shrinks = λ k h. let put = ap is_some (by_number (is_ok r) keyed k) in let less = some_put (is_ok r) p (point_in t.items) k in grind (arith, nat_tests);
+    refused = λ no k. let put = ap is_some (by_number (is_ok r) keyed k) in grind (arith, nat_tests);
+  }
 
-pub refused : (p : Point) (xs ys : List Point) (n m : ℕ) (r : Bool) → ys ≡ cond r (join number_of ltb p xs) xs → m ≡ n → r ≡ false → (k : ℕ) → place_in ys m k ≡ place_in xs n k
-refused p xs ys n m true holds size e k = absurd (both_ways true e refl)
-refused p xs ys n m false holds size e k = ap (λ l. place_in l m k) holds ∙ ap (λ z. place_in xs z k) size
-
-pub stays : (p : Point) (xs ys : List Point) (n m : ℕ) → ys ≡ swap number_of ltb p xs → m ≡ n → (k : ℕ) → place_in ys m k ≡ place_in xs n k
-stays p xs ys n m holds size k =
-    let put = ap is_some (look-swap p xs ys _ refl holds k) in
-    let long = ap length holds ∙ length-swap number_of ltb numbers_ordered p xs in
-    let here = ap (λ j. is_some (point_in xs j)) {x = p.number} {y = k} in
-    grind (arith, nat_tests)
+  -- the point took the place of the one of its number, or all stayed
+  pub replaced : (r : Result (Unit {0}) Absent) → is_ok r ≡ is_some (point_in t.items p.number) → ((k : ℕ) → point_in u.items k ≡ cond (is_ok r && is_eq (nat_cmp p.number k)) (Some p) (point_in t.items k)) → length u.items ≡ length t.items → Replaced p r (points_of t) (points_of u)
+  replaced r told keyed count = record {
+    value = told;
+    after = by_number (is_ok r) keyed;
+    same = λ k. let put = ap is_some (by_number (is_ok r) keyed k) in let here = ap (λ j. is_some (point_in t.items j)) {x = p.number} {y = k} in grind (arith, nat_tests);
+  }

@@ -1,6 +1,9 @@
 -- Points in the order of their arrival.
-use Rattle.std.specs.Prelude.{◌≡◌, ℕ, ◌<◌, Bool, true, cond, not, ◌&&◌, List, [], ◌∷◌, is_some, Some, None, Option, nat_le, nat_lt, slice_index_or}
+use Rattle.std.specs.Prelude.{◌≡◌, ℕ, ◌<◌, Bool, true, cond, not, ◌&&◌, List, [], ◌∷◌, length, is_some, Some, None, Option, nat_le, nat_lt, slice_index_or, slice_set}
+use Rattle.std.specs.Ordering.{nat_cmp}
 use Rattle.market.specs.declared.points.Point.{Point}
+use Rattle.tables.specs.Keys.{swap}
+use Rattle.tables.specs.Points.{number_of}
 use Rattle.registers.specs.Points.{point_in}
 
 -- no two of the points have one number
@@ -11,10 +14,12 @@ apart (x ∷ xs) = not (is_some (point_in xs x.number)) && apart xs
 abbrev pub Apart : List Point → Type 0
 Apart xs = apart xs ≡ true
 
--- a point with the number k stands at i, among the first n
-pub record At (xs : List Point) (n k i : ℕ) : Type 0 where
-  pub within : i < n
-  pub same : (d : Point) → (slice_index_or xs i d).number ≡ k
+-- the point with the number k stands at i: what is found and changed there
+pub record Stands (xs : List Point) (k i : ℕ) : Type 0 where
+  pub within : i < length xs
+  pub named : (d : Point) → (slice_index_or xs i d).number ≡ k
+  pub there : (d : Point) → point_in xs k ≡ Some (slice_index_or xs i d)
+  pub changed : (p : Point) → p.number ≡ k → slice_set xs i p ≡ swap number_of nat_cmp p xs
 
 -- the lower of x, where its number is n or above, and the lowest so far
 abbrev pub lower : ℕ → Point → Option Point → Option Point

@@ -1,33 +1,29 @@
 // Points in the order of their numbers, in a slice that the caller lends.
-ghost use Rattle.std.specs.Prelude.{◌≡◌, ℕ, length, None, nat_lt};
-ghost use Rattle.tables.specs.Tables.{held, size};
-ghost use Rattle.registers.specs.Points.{InOrder, point_in, place_in};
+ghost use Rattle.std.specs.Prelude.{◌≡◌, [], length};
+ghost use Rattle.market.specs.Stores.{Added, Replaced};
+ghost use Rattle.registers.specs.Points.{points_of};
 
-use market::{Point, Register};
+use market::{Absent, AddError, Point, Register};
 use tables::OrderedTable;
 
 #[derive(Drop)]
 pub struct PointTable<'a> {
     table: OrderedTable<'a, Point>,
-    ghost order: { InOrder (held table) },
 }
 
 impl<'a> PointTable<'a> {
     // A register with no point, and with a place for as many as the slice is long.
     pub fn new(items: &'a mut [Point]) -> Self
-        ensures size { size result.table ≡ length items.old }
-        ensures empty { (k : ℕ) → point_in (held result.table) k ≡ None }
-        ensures places { (k : ℕ) → place_in (held result.table) (size result.table) k ≡ nat_lt 0 (length items.old) }
+        ensures { result.table ≡ record { items = []; room = length items.old } }
     {
-        let table = OrderedTable::new(items);
-        PointTable { table }
+        PointTable {
+            table: OrderedTable::new(items),
+        }
     }
 }
 
 impl<'a> Register for PointTable<'a> {
-    ghost look = { λ s k. point_in (held s.table) k };
-
-    ghost place = { λ s k. place_in (held s.table) (size s.table) k };
+    ghost known = { λ s. points_of s.table };
 
     fn read(&self, number: u64) -> Option<Point> {
         self.table.read(number)
@@ -41,11 +37,18 @@ impl<'a> Register for PointTable<'a> {
         self.table.has_place(number)
     }
 
-    fn add(&mut self, point: Point) -> bool {
+    // As any register; and it has room for as many as before.
+    fn add(&mut self, point: Point) -> Result<(), AddError>
+        ensures added { Added point result (points_of self.old.table) (points_of self.new.table) }
+        ensures room { self.new.table.room ≡ self.old.table.room }
+    {
         self.table.add(point)
     }
 
-    fn replace(&mut self, point: Point) -> bool {
+    fn replace(&mut self, point: Point) -> Result<(), Absent>
+        ensures replaced { Replaced point result (points_of self.old.table) (points_of self.new.table) }
+        ensures room { self.new.table.room ≡ self.old.table.room }
+    {
         self.table.replace(point)
     }
 }

@@ -1,36 +1,59 @@
 // Points in the order of their arrival, in a slice that the caller lends.
-ghost use Rattle.std.specs.Prelude.{◌≡◌, ℕ, ◌≤◌, length, take, None, MatchOption, nat_lt};
-ghost use Rattle.registers.specs.Points.{point_in, place_in};
-ghost use Rattle.registers.specs.Arrivals.{Apart, At, lower};
+ghost use Rattle.std.specs.Prelude.{◌≡◌, [], length, None, MatchOption};
+ghost use Rattle.market.specs.Looks.{LowestFrom};
+ghost use Rattle.market.specs.Stores.{Added, Replaced};
+ghost use Rattle.registers.specs.Arrivals.{Apart, Stands, lower};
+ghost use Rattle.registers.specs.Points.{point_in, points_of};
 
-use market::{Point, Register};
+use market::{Absent, AddError, Point, Register};
+use std::marker::Model;
 
-// The points stand first in the slice. Every place of the slice can be used.
+// The points stand first in the slice. Every place of the slice can be used. No Vec: the memory is lent.
 #[derive(Drop)]
 pub struct Roll<'a> {
     items: &'a mut [Point],
     count: usize,
-    ghost fits: { count ≤ length items.now },
-    ghost apart: { Apart (take count items.now) },
+}
+
+// A clause sees the points in the order of their arrival, and how many there is room for in all.
+impl<'a> Model for Roll<'a> {
+    ghost use Rattle.std.specs.Prelude.{◌≤◌, length, take};
+    ghost use Rattle.market.specs.declared.points.Point.{Point as MeterPoint};
+    ghost use Rattle.tables.specs.Tables.{Records};
+    ghost use Rattle.registers.specs.Arrivals.{Apart};
+
+    ghost Value = { Records MeterPoint };
+
+    ghost view = { λ r. record { items = take r.count r.items.now; room = length r.items.now } };
+
+    ghost invariant = { λ r. (r.count ≤ length r.items.now) × Apart (take r.count r.items.now) };
 }
 
 impl<'a> Roll<'a> {
     // A register with no point, and with a place for as many as the slice is long.
     pub fn new(items: &'a mut [Point]) -> Self
-        ensures size { length result.items.now ≡ length items.old }
-        ensures empty { (k : ℕ) → point_in (take result.count result.items.now) k ≡ None }
-        ensures places { (k : ℕ) → place_in (take result.count result.items.now) (length result.items.now) k ≡ nat_lt 0 (length items.old) }
+        ensures { result ≡ record { items = []; room = length items.old } }
     {
         Roll { items, count: 0 }
     }
 
+    fn records(&self) -> &[Point]
+        ensures all { result.now ≡ self.now.items }
+        ensures apart { Apart result.now }
+    {
+        let items = &*self.items;
+        &items[..self.count]
+    }
+
     // Where the point with the number stands. Only one can have it, so the walk may go on past it.
     fn locate(&self, number: u64) -> Option<usize>
-        ensures { MatchOption result (point_in (take self.now.count self.now.items.now) number ≡ None) (At self.now.items.now self.now.count number) }
+        ensures { MatchOption result (point_in self.now.items number ≡ None) (Stands self.now.items number) }
     {
+        let records = self.records();
         let mut at = None;
-        for i in 0..self.count {
-            if self.items[i].number == number {
+        // By index, as a roll is read.
+        for i in 0..records.len() {
+            if records[i].number == number {
                 at = Some(i);
             }
         }
@@ -39,65 +62,68 @@ impl<'a> Roll<'a> {
 }
 
 impl<'a> Register for Roll<'a> {
-    ghost look = { λ s k. point_in (take s.count s.items.now) k };
-
-    ghost place = { λ s k. place_in (take s.count s.items.now) (length s.items.now) k };
+    ghost known = { points_of };
 
     fn read(&self, number: u64) -> Option<Point> {
+        let records = self.records();
         match self.locate(number) {
-            Some(at) => Some(self.items[at]),
+            Some(at) => Some(records[at]),
             None => None,
         }
     }
 
     fn lowest_from(&self, number: u64) -> Option<Point> {
-        let mut lowest: Option<Point> = None;
-        for i in 0..self.count {
-            lowest = lower_of(number, self.items[i], lowest);
-        }
-        lowest
+        lowest_of(self.records(), number)
     }
 
     fn has_place(&self, number: u64) -> bool {
         self.read(number).is_none() && self.count < self.items.len()
     }
 
-    fn add(&mut self, point: Point) -> bool {
-        if !self.has_place(point.number) {
-            return false;
+    // As any register; and it has room for as many as before.
+    fn add(&mut self, point: Point) -> Result<(), AddError>
+        ensures added { Added point result (points_of self.old) (points_of self.new) }
+        ensures room { self.new.room ≡ self.old.room }
+    {
+        match self.locate(point.number) {
+            Some(_) => Err(AddError::AlreadyThere),
+            None if self.count == self.items.len() => Err(AddError::NoPlace),
+            None => {
+                self.items[self.count] = point;
+                self.count += 1;
+                Ok(())
+            }
         }
-        let count = self.count;
-        self.items[count] = point;
-        self.count = count + 1;
-        true
     }
 
-    fn replace(&mut self, point: Point) -> bool {
-        match self.locate(point.number) {
-            Some(at) => {
-                self.items[at] = point;
-                true
-            }
-            None => false,
-        }
+    fn replace(&mut self, point: Point) -> Result<(), Absent>
+        ensures replaced { Replaced point result (points_of self.old) (points_of self.new) }
+        ensures room { self.new.room ≡ self.old.room }
+    {
+        let at = self.locate(point.number).ok_or(Absent)?;
+        self.items[at] = point;
+        Ok(())
     }
+}
+
+// The lowest point from the number on.
+fn lowest_of(records: &[Point], number: u64) -> Option<Point>
+    ensures { LowestFrom (point_in records.now) number result }
+{
+    let mut lowest: Option<Point> = None;
+    for i in 0..records.len() {
+        lowest = lower_of(number, records[i], lowest);
+    }
+    lowest
 }
 
 // The lower of the lowest so far and a point that comes next, which counts from the number on.
 fn lower_of(number: u64, point: Point, lowest: Option<Point>) -> Option<Point>
     ensures { result ≡ lower number point lowest }
 {
-    if point.number < number {
-        return lowest;
-    }
     match lowest {
-        None => Some(point),
-        Some(other) => {
-            if point.number < other.number {
-                Some(point)
-            } else {
-                Some(other)
-            }
-        }
+        _ if point.number < number => lowest,
+        Some(other) if other.number <= point.number => lowest,
+        _ => Some(point),
     }
 }

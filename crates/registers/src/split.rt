@@ -1,21 +1,23 @@
 // Two registers as one: the first holds below a bound and the second from the bound up.
-ghost use Rattle.std.specs.Prelude.{◌≡◌, ltb, if◌then◌else◌, nat_lt};
+ghost use Rattle.std.specs.Prelude.{◌≡◌, true, false, nat_lt};
+ghost use Rattle.market.specs.Stores.{Added, Replaced};
+ghost use Rattle.registers.specs.Splits.{known_of};
 
-use market::{Point, Register};
+use market::{Absent, AddError, Point, Register};
 
 // What the first holds from the bound up, and the second below it, is not seen.
 #[derive(Drop)]
-pub struct Split<'a, 'b, A: Register, B: Register> {
-    first: &'a mut A,
-    second: &'b mut B,
+pub struct Split<A: Register, B: Register> {
+    first: A,
+    second: B,
     bound: u64,
 }
 
-impl<'a, 'b, A: Register, B: Register> Split<'a, 'b, A, B> {
+impl<A: Register, B: Register> Split<A, B> {
     // The two as they stand, parted at the bound.
-    pub fn new(first: &'a mut A, second: &'b mut B, bound: u64) -> Self
-        ensures first { result.first.now ≡ first.old }
-        ensures second { result.second.now ≡ second.old }
+    pub fn new(first: A, second: B, bound: u64) -> Self
+        ensures first { result.first ≡ first }
+        ensures second { result.second ≡ second }
         ensures bound { result.bound ≡ bound }
     {
         Split {
@@ -33,10 +35,8 @@ impl<'a, 'b, A: Register, B: Register> Split<'a, 'b, A, B> {
     }
 }
 
-impl<'a, 'b, A: Register, B: Register> Register for Split<'a, 'b, A, B> {
-    ghost look = { λ s k. (if ltb k s.bound then A.Register.look s.first.now k else B.Register.look s.second.now k) };
-
-    ghost place = { λ s k. (if ltb k s.bound then A.Register.place s.first.now k else B.Register.place s.second.now k) };
+impl<A: Register, B: Register> Register for Split<A, B> {
+    ghost known = { known_of A.Register.known B.Register.known };
 
     fn read(&self, number: u64) -> Option<Point> {
         if self.is_below(number) {
@@ -65,7 +65,13 @@ impl<'a, 'b, A: Register, B: Register> Register for Split<'a, 'b, A, B> {
         }
     }
 
-    fn add(&mut self, point: Point) -> bool {
+    // As any register; and the other of the two stays, also where it is not seen.
+    fn add(&mut self, point: Point) -> Result<(), AddError>
+        ensures added { Added point result (known_of A.known B.known self.old) (known_of A.known B.known self.new) }
+        ensures second { nat_lt point.number self.old.bound ≡ true → self.new.second ≡ self.old.second }
+        ensures first { nat_lt point.number self.old.bound ≡ false → self.new.first ≡ self.old.first }
+        ensures bound { self.new.bound ≡ self.old.bound }
+    {
         if self.is_below(point.number) {
             self.first.add(point)
         } else {
@@ -73,7 +79,12 @@ impl<'a, 'b, A: Register, B: Register> Register for Split<'a, 'b, A, B> {
         }
     }
 
-    fn replace(&mut self, point: Point) -> bool {
+    fn replace(&mut self, point: Point) -> Result<(), Absent>
+        ensures replaced { Replaced point result (known_of A.known B.known self.old) (known_of A.known B.known self.new) }
+        ensures second { nat_lt point.number self.old.bound ≡ true → self.new.second ≡ self.old.second }
+        ensures first { nat_lt point.number self.old.bound ≡ false → self.new.first ≡ self.old.first }
+        ensures bound { self.new.bound ≡ self.old.bound }
+    {
         if self.is_below(point.number) {
             self.first.replace(point)
         } else {
