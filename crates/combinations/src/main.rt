@@ -14,66 +14,64 @@ use std::io::{BufRead, BufReader};
 // The replies to the script's lines, over a register and an outbox.
 fn replies<R: Register, O: Outbox>(
     heap: Global,
-    register: &mut R,
-    outbox: &mut O,
-    script: &Vec<Vec<u8>>,
+    register: R,
+    outbox: O,
+    script: &[Vec<u8>],
 ) -> Result<Vec<Reply>, AllocError> {
     let mut parties = [PartyEntry::BLANK; 8];
     let mut links = [LinkEntry::BLANK; 8];
     let mut directory = PartyBook::new(&mut parties, &mut links);
     let week = Week { holidays: &[] };
-    let mut desk = Desk::new(register, outbox, &mut directory, &week);
+    let mut desk = Desk::new(register, outbox, &mut directory, week);
     let mut replies = Vec::new(heap);
-    for line in script.iter() {
+    for line in script {
         replies.push(desk.line(line.as_slice()))?;
     }
     Ok(replies)
 }
 
-fn table_and_ring(heap: Global, script: &Vec<Vec<u8>>) -> Result<Vec<Reply>, AllocError> {
+fn table_and_ring(heap: Global, script: &[Vec<u8>]) -> Result<Vec<Reply>, AllocError> {
     let mut points = [Point::BLANK; 6];
     let mut bytes = [0u8; 160];
-    let mut table = PointTable::new(&mut points);
-    let mut ring = ByteRing::new(&mut bytes);
-    replies(heap, &mut table, &mut ring, script)
+    replies(
+        heap,
+        PointTable::new(&mut points),
+        ByteRing::new(&mut bytes),
+        script,
+    )
 }
 
-fn roll_and_places(heap: Global, script: &Vec<Vec<u8>>) -> Result<Vec<Reply>, AllocError> {
+fn roll_and_places(heap: Global, script: &[Vec<u8>]) -> Result<Vec<Reply>, AllocError> {
     let mut points = [Point::BLANK; 6];
     let mut notices = [Notice::BLANK; 10];
-    let mut roll = Roll::new(&mut points);
-    let mut places = PlaceRing::new(&mut notices);
-    replies(heap, &mut roll, &mut places, script)
+    replies(
+        heap,
+        Roll::new(&mut points),
+        PlaceRing::new(&mut notices),
+        script,
+    )
 }
 
 // Three places below 100, three from it up.
-fn split_and_ring(heap: Global, script: &Vec<Vec<u8>>) -> Result<Vec<Reply>, AllocError> {
+fn split_and_ring(heap: Global, script: &[Vec<u8>]) -> Result<Vec<Reply>, AllocError> {
     let mut low = [Point::BLANK; 3];
     let mut high = [Point::BLANK; 3];
     let mut bytes = [0u8; 160];
-    let mut table = PointTable::new(&mut low);
-    let mut roll = Roll::new(&mut high);
-    let mut split = Split::new(&mut table, &mut roll, 100);
-    let mut ring = ByteRing::new(&mut bytes);
-    replies(heap, &mut split, &mut ring, script)
+    let split = Split::new(PointTable::new(&mut low), Roll::new(&mut high), 100);
+    replies(heap, split, ByteRing::new(&mut bytes), script)
 }
 
 // Two places below 50, one below 100, one below 200, and two from it up.
-fn splits_and_places(heap: Global, script: &Vec<Vec<u8>>) -> Result<Vec<Reply>, AllocError> {
+fn splits_and_places(heap: Global, script: &[Vec<u8>]) -> Result<Vec<Reply>, AllocError> {
     let mut lowest = [Point::BLANK; 2];
     let mut low = [Point::BLANK; 1];
     let mut high = [Point::BLANK; 1];
     let mut highest = [Point::BLANK; 2];
     let mut notices = [Notice::BLANK; 10];
-    let mut lowest = PointTable::new(&mut lowest);
-    let mut low = Roll::new(&mut low);
-    let mut high = Roll::new(&mut high);
-    let mut highest = PointTable::new(&mut highest);
-    let mut below = Split::new(&mut lowest, &mut low, 50);
-    let mut above = Split::new(&mut high, &mut highest, 200);
-    let mut split = Split::new(&mut below, &mut above, 100);
-    let mut places = PlaceRing::new(&mut notices);
-    replies(heap, &mut split, &mut places, script)
+    let below = Split::new(PointTable::new(&mut lowest), Roll::new(&mut low), 50);
+    let above = Split::new(Roll::new(&mut high), PointTable::new(&mut highest), 200);
+    let split = Split::new(below, above, 100);
+    replies(heap, split, PlaceRing::new(&mut notices), script)
 }
 
 fn run(rt: &HostRuntime) -> anyhow::Result<()> {
@@ -87,10 +85,8 @@ fn run(rt: &HostRuntime) -> anyhow::Result<()> {
     let c = split_and_ring(heap, &script)?;
     let d = splits_and_places(heap, &script)?;
     println!(rt; "line: table + ring | roll + places | split + ring | split of splits + places")?;
-    for i in 0..script.len() {
-        if let (Some(a), Some(b), Some(c), Some(d)) = (a.get(i), b.get(i), c.get(i), d.get(i)) {
-            println!(rt; "{}: {a} | {b} | {c} | {d}", i + 1)?;
-        }
+    for (i, (((a, b), c), d)) in a.iter().zip(&b).zip(&c).zip(&d).enumerate() {
+        println!(rt; "{}: {a} | {b} | {c} | {d}", i + 1)?;
     }
     Ok(())
 }

@@ -19,11 +19,11 @@ pub fn serve(rt: &HostRuntime) -> io::Result<()> {
     let mut parties = [PartyEntry::BLANK; 64];
     let mut links = [LinkEntry::BLANK; 64];
     let mut bytes = [0u8; 256];
-    let mut register = PointTable::new(&mut points);
-    let mut outbox = ByteRing::new(&mut bytes);
+    let register = PointTable::new(&mut points);
+    let outbox = ByteRing::new(&mut bytes);
     let mut directory = PartyBook::new(&mut parties, &mut links);
     let week = Week { holidays: &[] };
-    let mut desk = Desk::new(&mut register, &mut outbox, &mut directory, &week);
+    let mut desk = Desk::new(register, outbox, &mut directory, week);
     for line in BufReader::new(rt.alloc(), rt.stdin())?.split(rt.alloc(), b'\n') {
         let line = line?;
         let reply = desk.line(line.as_slice());

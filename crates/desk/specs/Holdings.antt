@@ -1,8 +1,8 @@
 -- What a line does to everything that a feed holds.
 use Rattle.std.specs.Prelude.{◌≡◌, ℕ, ◌+◌, ◌-◌, ◌^◌, min, false, List, is_ok, Ok, Err, Result}
 use Rattle.market.specs.declared.refusals.Refusal.{Refusal}
-use Rattle.market.specs.Numbers.{role_number}
-use Rattle.rules.specs.Rows.{Parties}
+use Rattle.market.specs.declared.received.NewLink.{NewLink}
+use Rattle.market.specs.declared.received.NewParty.{NewParty}
 use Rattle.engine.specs.declared.calls.Answer.{Answer}
 use Rattle.engine.specs.declared.calls.Call.{Call}
 use Rattle.engine.specs.Outcome.{Outcome, Unchanged}
@@ -10,7 +10,7 @@ use Rattle.engine.specs.State.{State}
 use Rattle.directory.specs.declared.entries.PartyEntry.{PartyEntry}
 use Rattle.directory.specs.declared.entries.LinkEntry.{LinkEntry}
 use Rattle.directory.specs.Additions.{party_answer, link_answer, PartyAdded, LinkAdded}
-use Rattle.directory.specs.Entries.{qualified_in, sanctioned_in, linked_in}
+use Rattle.directory.specs.Entries.{parties_of}
 use Rattle.lines.specs.declared.commands.Command.{Command}
 use Rattle.lines.specs.declared.commands.Command.TheVariants as command
 use Rattle.words.specs.declared.faults.FeedFault.{FeedFault}
@@ -32,31 +32,23 @@ pub record Holding : Type 0 where
   pub listing : Listing
   pub lines : ℕ
 
--- what the directory says to the engine
-abbrev pub parties_in : Listing → Parties
-parties_in l = record {
-  qualified = λ p r. qualified_in l.parties p (role_number r);
-  sanctioned = λ p r. sanctioned_in l.parties p (role_number r);
-  linked = λ a b. linked_in l.links a b;
-}
-
 -- the number of the line that comes next; it stops at the greatest that fits 64 bits
 abbrev pub next_line : ℕ → ℕ
 next_line n = min (n + 1) (2 ^ 64 - 1)
 
-pub record PartyListed (p r q s : ℕ) (h k : Holding) (a : Reply) : Type 0 where
-  pub reply : a ≡ added_reply (party_answer h.listing.parties h.listing.party_places p r q s)
-  pub parties : PartyAdded p r q s h.listing.parties (is_ok (party_answer h.listing.parties h.listing.party_places p r q s)) k.listing.parties
-  pub refused : is_ok (party_answer h.listing.parties h.listing.party_places p r q s) ≡ false → k.listing.parties ≡ h.listing.parties
+pub record PartyListed (new : NewParty) (h k : Holding) (a : Reply) : Type 0 where
+  pub reply : a ≡ added_reply (party_answer h.listing.parties h.listing.party_places new)
+  pub parties : PartyAdded new h.listing.parties (is_ok (party_answer h.listing.parties h.listing.party_places new)) k.listing.parties
+  pub refused : is_ok (party_answer h.listing.parties h.listing.party_places new) ≡ false → k.listing.parties ≡ h.listing.parties
   pub links : k.listing.links ≡ h.listing.links
   pub party_places : k.listing.party_places ≡ h.listing.party_places
   pub link_places : k.listing.link_places ≡ h.listing.link_places
   pub state : Unchanged h.state k.state
 
-pub record LinkListed (p q : ℕ) (h k : Holding) (a : Reply) : Type 0 where
-  pub reply : a ≡ added_reply (link_answer h.listing.links h.listing.link_places p q)
-  pub links : LinkAdded p q h.listing.links (is_ok (link_answer h.listing.links h.listing.link_places p q)) k.listing.links
-  pub refused : is_ok (link_answer h.listing.links h.listing.link_places p q) ≡ false → k.listing.links ≡ h.listing.links
+pub record LinkListed (new : NewLink) (h k : Holding) (a : Reply) : Type 0 where
+  pub reply : a ≡ added_reply (link_answer h.listing.links h.listing.link_places new)
+  pub links : LinkAdded new h.listing.links (is_ok (link_answer h.listing.links h.listing.link_places new)) k.listing.links
+  pub refused : is_ok (link_answer h.listing.links h.listing.link_places new) ≡ false → k.listing.links ≡ h.listing.links
   pub parties : k.listing.parties ≡ h.listing.parties
   pub party_places : k.listing.party_places ≡ h.listing.party_places
   pub link_places : k.listing.link_places ≡ h.listing.link_places
@@ -65,7 +57,7 @@ pub record LinkListed (p q : ℕ) (h k : Holding) (a : Reply) : Type 0 where
 -- the engine's answer is the reply, and the directory stays
 pub record Called (c : Call) (h k : Holding) (a : Reply) : Type 0 where
   pub answer : Result Answer Refusal
-  pub outcome : Outcome c (parties_in h.listing) h.state answer k.state
+  pub outcome : Outcome c (parties_of h.listing.parties h.listing.links) h.state answer k.state
   pub reply : a ≡ reply_to answer
   pub listing : k.listing ≡ h.listing
 
@@ -77,8 +69,8 @@ pub record Faulty (f : FeedFault) (h k : Holding) (a : Reply) : Type 0 where
 
 abbrev pub ByCommand : Result Command FeedFault → Holding → Reply → Holding → Type 0
 ByCommand (Err f) h a k = Faulty f h k a
-ByCommand (Ok (command.Party p r q s)) h a k = PartyListed p r q s h k a
-ByCommand (Ok (command.Link p q)) h a k = LinkListed p q h k a
+ByCommand (Ok (command.Party new)) h a k = PartyListed new h k a
+ByCommand (Ok (command.Link new)) h a k = LinkListed new h k a
 ByCommand (Ok (command.Call c)) h a k = Called c h k a
 
 -- the bytes of a line, all that is held before, the reply, and all that is held after

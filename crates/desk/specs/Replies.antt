@@ -2,8 +2,7 @@
 use Rattle.std.specs.Prelude.{ℕ, List, ◌++◌, Some, None, Ok, Err, codes, decimal, Result}
 use Rattle.market.specs.declared.refusals.Refusal.{Refusal}
 use Rattle.market.specs.Numbers.{refusal_number, notice_kind_number, role_number}
-use Rattle.rules.specs.declared.steps.Turn.{Turn}
-use Rattle.rules.specs.declared.steps.Turn.TheVariants.{Confirmed, Secured, Completed, Left}
+use Rattle.rules.specs.Steps.{turn_name}
 use Rattle.engine.specs.declared.calls.Answer.{Answer}
 use Rattle.engine.specs.declared.calls.Answer.TheVariants as answer
 use Rattle.words.specs.Faults.{fault_number, fault_field, line_fault_of}
@@ -24,12 +23,6 @@ reply_to (Err r) = reply.Refused r
 abbrev pub added_reply : Result (Unit {0}) Refusal → Reply
 added_reply (Ok u) = reply.Done
 added_reply (Err r) = reply.Refused r
-
-abbrev pub turn_name : Turn → List ℕ
-turn_name Confirmed = codes "confirmed"
-turn_name Secured = codes "secured"
-turn_name Completed = codes "completed"
-turn_name Left = codes "left"
 
 -- the text of a reply, without the end of the line
 abbrev pub text_of : Reply → List ℕ

@@ -10,38 +10,29 @@ use lines::{Command, accept};
 use market::{Calendar, Outbox, Register};
 use words::FaultReport;
 
-// A register with its engine, an outbox, a directory and a calendar, and how many lines came.
+// A register with its engine, an outbox, a directory and a calendar, and how many lines came. Register,
+// outbox and calendar may be lent as well; the directory always is, since others list parties in it too.
 #[derive(Drop)]
-pub struct Desk<'a, 'b, 'c, 'd, 'e, 'f, R, O, C> {
-    engine: Engine<'a, R>,
-    outbox: &'b mut O,
-    directory: &'c mut PartyBook<'d, 'e>,
-    calendar: &'f C,
+pub struct Desk<'a, 'b, 'c, R, O, C> {
+    engine: Engine<R>,
+    outbox: O,
+    directory: &'a mut PartyBook<'b, 'c>,
+    calendar: C,
     lines: u64,
 }
 
-impl<'a, 'b, 'c, 'd, 'e, 'f, R: Register, O: Outbox, C: Calendar> Desk<
-    'a,
-    'b,
-    'c,
-    'd,
-    'e,
-    'f,
-    R,
-    O,
-    C,
-> {
+impl<'a, 'b, 'c, R: Register, O: Outbox, C: Calendar> Desk<'a, 'b, 'c, R, O, C> {
     // A desk over the stores as they are, with its clock at 0, before its first line.
     pub fn new(
-        register: &'a mut R,
-        outbox: &'b mut O,
-        directory: &'c mut PartyBook<'d, 'e>,
-        calendar: &'f C,
+        register: R,
+        outbox: O,
+        directory: &'a mut PartyBook<'b, 'c>,
+        calendar: C,
     ) -> Self
-        ensures engine { (result.engine.register.now ≡ register.old) × (result.engine.clock ≡ 0) }
-        ensures outbox { result.outbox.now ≡ outbox.old }
+        ensures engine { (result.engine.register ≡ register) × (result.engine.clock ≡ 0) }
+        ensures outbox { result.outbox ≡ outbox }
         ensures directory { result.directory.now ≡ directory.old }
-        ensures calendar { result.calendar.now ≡ calendar.now }
+        ensures calendar { result.calendar ≡ calendar }
         ensures lines { result.lines ≡ 0 }
     {
         Desk {
@@ -55,7 +46,7 @@ impl<'a, 'b, 'c, 'd, 'e, 'f, R: Register, O: Outbox, C: Calendar> Desk<
 
     // Does what the line says, and tells the reply. Any bytes are answered.
     pub fn line(&mut self, bytes: &[u8]) -> Reply
-        ensures { Answered bytes.now (holding_of R.look R.place O.waiting O.room O.size self.old) result (holding_of R.look R.place O.waiting O.room O.size self.new) }
+        ensures { Answered bytes.now (holding_of R.known O.queue self.old) result (holding_of R.known O.queue self.new) }
     {
         self.lines = self.lines.saturating_add(1);
         match accept(bytes) {
@@ -63,25 +54,11 @@ impl<'a, 'b, 'c, 'd, 'e, 'f, R: Register, O: Outbox, C: Calendar> Desk<
                 line: self.lines,
                 fault,
             }),
-            Ok(
-                Command::Party {
-                    number,
-                    role,
-                    qualified,
-                    sanctioned,
-                },
-            ) => {
-                Reply::to_addition(
-                    self.directory
-                        .add_party(number, role, qualified, sanctioned),
-                )
-            }
-            Ok(Command::Link { supplier, shipper }) => Reply::to_addition(
-                self.directory.add_link(supplier, shipper),
-            ),
-            Ok(Command::Call(call)) => Reply::to_call(
+            Ok(Command::Party(new)) => Reply::from(self.directory.add_party(new)),
+            Ok(Command::Link(new)) => Reply::from(self.directory.add_link(new)),
+            Ok(Command::Call(call)) => Reply::from(
                 self.engine
-                    .apply(self.calendar, &*self.directory, self.outbox, call),
+                    .apply(&self.calendar, &*self.directory, &mut self.outbox, call),
             ),
         }
     }

@@ -1,6 +1,6 @@
 // The reply to a line, as a value and as text.
 ghost use Rattle.std.specs.Prelude.{◌≡◌, Some};
-ghost use Rattle.desk.specs.Replies.{text_of, turn_name, reply_to, added_reply};
+ghost use Rattle.desk.specs.Replies.{text_of, reply_to, added_reply};
 
 use engine::Answer;
 use market::{Notice, Refusal};
@@ -8,7 +8,7 @@ use rules::Turn;
 use std::fmt;
 use words::FaultReport;
 
-#[derive(Clone, Copy)]
+#[derive(Clone, Copy, Debug, PartialEq, Eq)]
 pub enum Reply {
     // Accepted, and there is no more to say.
     Done,
@@ -21,11 +21,11 @@ pub enum Reply {
     Fault(FaultReport),
 }
 
-impl Reply {
-    // The reply to a call.
-    pub fn to_call(answer: Result<Answer, Refusal>) -> Reply
-        ensures { result ≡ reply_to answer }
-    {
+// The reply to a call.
+impl From<Result<Answer, Refusal>> for Reply {
+    ghost from_gives = { λ answer reply. reply ≡ reply_to answer };
+
+    fn from(answer: Result<Answer, Refusal>) -> Reply {
         match answer {
             Err(refusal) => Reply::Refused(refusal),
             Ok(Answer::Done) => Reply::Done,
@@ -45,26 +45,17 @@ impl Reply {
             Ok(Answer::Reached(moment)) => Reply::Reached(moment),
         }
     }
+}
 
-    // The reply to an addition to the directory.
-    pub fn to_addition(answer: Result<(), Refusal>) -> Reply
-        ensures { result ≡ added_reply answer }
-    {
+// The reply to an addition to the directory.
+impl From<Result<(), Refusal>> for Reply {
+    ghost from_gives = { λ answer reply. reply ≡ added_reply answer };
+
+    fn from(answer: Result<(), Refusal>) -> Reply {
         match answer {
             Err(refusal) => Reply::Refused(refusal),
             Ok(()) => Reply::Done,
         }
-    }
-}
-
-fn turn_name(turn: Turn) -> &'static str
-    ensures { result.now ≡ turn_name turn }
-{
-    match turn {
-        Turn::Confirmed => "confirmed",
-        Turn::Secured => "secured",
-        Turn::Completed => "completed",
-        Turn::Left => "left",
     }
 }
 
@@ -74,16 +65,17 @@ impl fmt::Display for Reply {
     fn fmt<W: fmt::Write>(&self, f: &mut fmt::Formatter<W>) -> fmt::Result {
         match *self {
             Reply::Done => write!(f, "ok"),
-            Reply::Refused(refusal) => {
-                let number = refusal.number();
-                write!(f, "refused {number}")
-            }
-            Reply::Notice(notice) => {
-                let kind = notice.kind.number();
-                let role = notice.role.number();
-                let party = notice.party;
-                let point = notice.point;
-                let moment = notice.moment;
+            Reply::Refused(refusal) => write!(f, "refused {}", u8::from(refusal)),
+            Reply::Notice(
+                Notice {
+                    point,
+                    moment,
+                    party,
+                    kind,
+                    role,
+                },
+            ) => {
+                let (kind, role) = (u8::from(kind), u8::from(role));
                 write!(f, "notice {kind} {role} {party} {point} {moment}")
             }
             Reply::Nothing => write!(f, "none"),
@@ -91,10 +83,7 @@ impl fmt::Display for Reply {
                 point,
                 turn,
                 moment,
-            } => {
-                let name = turn_name(turn);
-                write!(f, "step {point} {name} {moment}")
-            }
+            } => write!(f, "step {point} {turn} {moment}"),
             Reply::Reached(moment) => write!(f, "reached {moment}"),
             Reply::Fault(report) => write!(f, "{report}"),
         }

@@ -2,6 +2,7 @@
 use engine::Call;
 use lines::commands::Command;
 use lines::{accept, decode};
+use market::NewLink;
 use std::test::Fail;
 use words::{FaultReport, FieldFault, LineFault};
 
@@ -10,10 +11,10 @@ fn commands(rt: HostRuntime) {
     assert!(rt; decode(b"take") == Ok(Command::Call(Call::Take)));
     assert!(rt;
         decode(b"link 007 12")
-            == Ok(Command::Link {
+            == Ok(Command::Link(NewLink {
                 supplier: 7,
                 shipper: 12,
-            })
+            }))
     );
     assert!(rt;
         decode(b"advance 9999999999999")

@@ -12,19 +12,19 @@ fn secured_to_the_dcc(rt: HostRuntime) {
         kind: NoticeKind::Secured,
         role: Role::Dcc,
     };
-    assert!(rt; notice.to_bytes() == SECURED);
-    assert!(rt; matches!(Notice::from_bytes(&SECURED), Ok(read) if read == notice));
+    assert!(rt; <[u8; 16]>::from(notice) == SECURED);
+    assert!(rt; matches!(Notice::try_from(&SECURED[..]), Ok(read) if read == notice));
 }
 
 // A byte too few, kind 11, role 14, a central service with a party, point 0, and a moment past the last.
 #[test]
 fn refused(rt: HostRuntime) {
-    assert!(rt; Notice::from_bytes(&SECURED[0..15]).is_err());
-    assert!(rt; Notice::from_bytes(&[0, 0, 0, 0, 0, 0, 0, 7, 0, 0, 3, 0xfc, 0, 0, 11, 9]).is_err());
-    assert!(rt; Notice::from_bytes(&[0, 0, 0, 0, 0, 0, 0, 7, 0, 0, 3, 0xfc, 0, 0, 8, 14]).is_err());
-    assert!(rt; Notice::from_bytes(&[0, 0, 0, 0, 0, 0, 0, 7, 0, 0, 3, 0xfc, 0, 1, 8, 9]).is_err());
-    assert!(rt; Notice::from_bytes(&[0, 0, 0, 0, 0, 0, 0, 0, 0, 0, 3, 0xfc, 0, 0, 8, 9]).is_err());
+    assert!(rt; Notice::try_from(&SECURED[0..15]).is_err());
+    assert!(rt; Notice::try_from(&[0, 0, 0, 0, 0, 0, 0, 7, 0, 0, 3, 0xfc, 0, 0, 11, 9][..]).is_err());
+    assert!(rt; Notice::try_from(&[0, 0, 0, 0, 0, 0, 0, 7, 0, 0, 3, 0xfc, 0, 0, 8, 14][..]).is_err());
+    assert!(rt; Notice::try_from(&[0, 0, 0, 0, 0, 0, 0, 7, 0, 0, 3, 0xfc, 0, 1, 8, 9][..]).is_err());
+    assert!(rt; Notice::try_from(&[0, 0, 0, 0, 0, 0, 0, 0, 0, 0, 3, 0xfc, 0, 0, 8, 9][..]).is_err());
     assert!(rt;
-        Notice::from_bytes(&[0, 0, 0, 0, 0, 0, 0, 7, 0x08, 0x95, 0x44, 0, 0, 0, 8, 9]).is_err()
+        Notice::try_from(&[0, 0, 0, 0, 0, 0, 0, 7, 0x08, 0x95, 0x44, 0, 0, 0, 8, 9][..]).is_err()
     );
 }
