@@ -1,8 +1,9 @@
 -- What the listed parties and links say. A role goes by its number.
 use Rattle.std.specs.Prelude.{ℕ, Bool, false, List, is_some, Some, None, Option}
 use Rattle.market.specs.Numbers.{role_number}
+use Rattle.market.specs.Stores.{Parties}
 use Rattle.tables.specs.Keys.{find}
-use Rattle.tables.specs.Orders.{pair_less}
+use Rattle.tables.specs.Orders.{pair_cmp}
 use Rattle.directory.specs.declared.entries.PartyEntry.{PartyEntry}
 use Rattle.directory.specs.declared.entries.LinkEntry.{LinkEntry}
 
@@ -14,7 +15,7 @@ link_key l = (l.supplier, l.shipper)
 
 -- the entry of the party p in the role r
 abbrev pub entry_of : List PartyEntry → ℕ → ℕ → Option PartyEntry
-entry_of xs p r = find party_key pair_less (p, r) xs
+entry_of xs p r = find party_key pair_cmp (p, r) xs
 
 -- what an entry says, where there is one; without an entry, no
 abbrev pub says : (PartyEntry → Bool) → Option PartyEntry → Bool
@@ -32,4 +33,12 @@ sanctioned_in xs p r = says (λ e. e.sanctioned) (entry_of xs p r)
 
 -- the shipper b ships for the supplier a
 abbrev pub linked_in : List LinkEntry → ℕ → ℕ → Bool
-linked_in xs a b = is_some (find link_key pair_less (a, b) xs)
+linked_in xs a b = is_some (find link_key pair_cmp (a, b) xs)
+
+-- what the listed parties and links say, as a directory's meaning
+abbrev pub parties_of : List PartyEntry → List LinkEntry → Parties
+parties_of xs ls = record {
+  qualified = λ p x. qualified_in xs p (role_number x);
+  sanctioned = λ p x. sanctioned_in xs p (role_number x);
+  linked = λ a b. linked_in ls a b;
+}

@@ -1,108 +1,70 @@
 // The directory over two slices that the caller lends: one for parties in roles, one for links.
-ghost use Rattle.std.specs.Prelude.{◌≡◌, true, false, [], length, is_ok};
-ghost use Rattle.market.specs.Numbers.{role_number};
-ghost use Rattle.tables.specs.Keys.{in_order};
-ghost use Rattle.tables.specs.Orders.{pair_less};
-ghost use Rattle.tables.specs.Tables.{held, size};
+ghost use Rattle.std.specs.Prelude.{◌≡◌, false, [], length, is_ok};
 ghost use Rattle.directory.specs.Additions.{party_answer, link_answer, PartyAdded, LinkAdded};
-ghost use Rattle.directory.specs.Entries.{party_key, link_key, qualified_in, sanctioned_in, linked_in};
+ghost use Rattle.directory.specs.Entries.{parties_of};
 
 use crate::entries::{LinkEntry, PartyEntry};
-use crate::limits::{link_entry, party_entry};
-use market::{Directory, Refusal, Role};
+use market::{Directory, NewLink, NewParty, Refusal, Role};
 use tables::OrderedTable;
 
 #[derive(Drop)]
 pub struct PartyBook<'a, 'b> {
     parties: OrderedTable<'a, PartyEntry>,
     links: OrderedTable<'b, LinkEntry>,
-    ghost parties_order: { in_order party_key pair_less (held parties) ≡ true },
-    ghost links_order: { in_order link_key pair_less (held links) ≡ true },
 }
 
 impl<'a, 'b> PartyBook<'a, 'b> {
     // A directory in which nobody is listed, with places for as many as the slices are long.
     pub fn new(parties: &'a mut [PartyEntry], links: &'b mut [LinkEntry]) -> Self
-        ensures empty { (held result.parties ≡ []) × (held result.links ≡ []) }
-        ensures sizes { (size result.parties ≡ length parties.old) × (size result.links ≡ length links.old) }
+        ensures empty { (result.parties.items ≡ []) × (result.links.items ≡ []) }
+        ensures sizes { (result.parties.room ≡ length parties.old) × (result.links.room ≡ length links.old) }
     {
-        let parties = OrderedTable::new(parties);
-        let links = OrderedTable::new(links);
-        PartyBook { parties, links }
+        PartyBook {
+            parties: OrderedTable::new(parties),
+            links: OrderedTable::new(links),
+        }
     }
 
-    // Lists a party in a role. The four numbers come as they were sent.
-    pub fn add_party(
-        &mut self,
-        number: u64,
-        role: u64,
-        qualified: u64,
-        sanctioned: u64,
-    ) -> Result<(), Refusal>
-        ensures value { result ≡ party_answer (held self.old.parties) (size self.old.parties) number role qualified sanctioned }
-        ensures after { PartyAdded number role qualified sanctioned (held self.old.parties) (is_ok result) (held self.new.parties) }
-        ensures refused { is_ok result ≡ false → held self.new.parties ≡ held self.old.parties }
-        ensures same { held self.new.links ≡ held self.old.links }
-        ensures sizes { (size self.new.parties ≡ size self.old.parties) × (size self.new.links ≡ size self.old.links) }
+    // Lists a party in a role.
+    pub fn add_party(&mut self, new: NewParty) -> Result<(), Refusal>
+        ensures value { result ≡ party_answer self.old.parties.items self.old.parties.room new }
+        ensures after { PartyAdded new self.old.parties.items (is_ok result) self.new.parties.items }
+        ensures refused { is_ok result ≡ false → self.new ≡ self.old }
+        ensures same { self.new.links ≡ self.old.links }
+        ensures sizes { self.new.parties.room ≡ self.old.parties.room }
     {
-        let Some(entry) = party_entry(number, role, qualified, sanctioned) else {
-            return Err(Refusal::OutsideLimits);
-        };
-        if self
-            .parties
-            .read((entry.number, entry.role.number()))
-            .is_some()
-        {
-            return Err(Refusal::AlreadyThere);
-        }
-        if self.parties.add(entry) {
-            Ok(())
-        } else {
-            Err(Refusal::NoPlace)
-        }
+        let entry = PartyEntry::try_from(new)?;
+        self.parties.add(entry)?;
+        Ok(())
     }
 
     // Lists that the shipper ships for the supplier.
-    pub fn add_link(&mut self, supplier: u64, shipper: u64) -> Result<(), Refusal>
-        ensures value { result ≡ link_answer (held self.old.links) (size self.old.links) supplier shipper }
-        ensures after { LinkAdded supplier shipper (held self.old.links) (is_ok result) (held self.new.links) }
-        ensures refused { is_ok result ≡ false → held self.new.links ≡ held self.old.links }
-        ensures same { held self.new.parties ≡ held self.old.parties }
-        ensures sizes { (size self.new.parties ≡ size self.old.parties) × (size self.new.links ≡ size self.old.links) }
+    pub fn add_link(&mut self, new: NewLink) -> Result<(), Refusal>
+        ensures value { result ≡ link_answer self.old.links.items self.old.links.room new }
+        ensures after { LinkAdded new self.old.links.items (is_ok result) self.new.links.items }
+        ensures refused { is_ok result ≡ false → self.new ≡ self.old }
+        ensures same { self.new.parties ≡ self.old.parties }
+        ensures sizes { self.new.links.room ≡ self.old.links.room }
     {
-        let Some(link) = link_entry(supplier, shipper) else {
-            return Err(Refusal::OutsideLimits);
-        };
-        if self.links.read((link.supplier, link.shipper)).is_some() {
-            return Err(Refusal::AlreadyThere);
-        }
-        if self.links.add(link) {
-            Ok(())
-        } else {
-            Err(Refusal::NoPlace)
-        }
+        let link = LinkEntry::try_from(new)?;
+        self.links.add(link)?;
+        Ok(())
     }
 }
 
 impl<'a, 'b> Directory for PartyBook<'a, 'b> {
-    ghost qualified = { λ s p x. qualified_in (held s.parties) p (role_number x) };
-
-    ghost sanctioned = { λ s p x. sanctioned_in (held s.parties) p (role_number x) };
-
-    ghost linked = { λ s a b. linked_in (held s.links) a b };
+    ghost parties = { λ s. parties_of s.parties.items s.links.items };
 
     fn is_qualified(&self, party: u16, role: Role) -> bool {
-        match self.parties.read((party, role.number())) {
-            Some(entry) => entry.qualified,
-            None => false,
-        }
+        self.parties
+            .read((party, u8::from(role)))
+            .is_some_and(|entry| entry.qualified)
     }
 
     fn is_sanctioned(&self, party: u16, role: Role) -> bool {
-        match self.parties.read((party, role.number())) {
-            Some(entry) => entry.sanctioned,
-            None => false,
-        }
+        self.parties
+            .read((party, u8::from(role)))
+            .is_some_and(|entry| entry.sanctioned)
     }
 
     fn is_linked(&self, supplier: u16, shipper: u16) -> bool {

@@ -1,13 +1,11 @@
 // What is listed of a party and of a link, and in which order.
-ghost use Rattle.tables.specs.Orders.{pair_less};
 ghost use Rattle.directory.specs.Entries.{party_key, link_key};
-ghost use Rattle.std.proofs.Common.{rules};
 
 use market::Role;
 use tables::Keyed;
 
 // A party in one of its roles.
-#[derive(Clone, Copy)]
+#[derive(Clone, Copy, Debug, PartialEq, Eq)]
 pub struct PartyEntry {
     pub number: u16,
     pub role: Role,
@@ -16,7 +14,7 @@ pub struct PartyEntry {
 }
 
 // The shipper ships for the supplier.
-#[derive(Clone, Copy)]
+#[derive(Clone, Copy, Debug, PartialEq, Eq)]
 pub struct LinkEntry {
     pub supplier: u16,
     pub shipper: u16,
@@ -40,22 +38,14 @@ impl LinkEntry {
     };
 }
 
-// Parties by their numbers, and one party's entries by their roles.
+// Parties by their numbers, and one party's entries by their roles' numbers.
 impl Keyed for PartyEntry {
     type Key = (u16, u8);
 
     ghost own = { party_key };
 
-    ghost less = { pair_less };
-
-    ghost order = { Prim.search rules };
-
     fn key(&self) -> (u16, u8) {
-        (self.number, self.role.number())
-    }
-
-    fn below(a: &(u16, u8), b: &(u16, u8)) -> bool {
-        a.0 < b.0 || (a.0 == b.0 && a.1 < b.1)
+        (self.number, u8::from(self.role))
     }
 }
 
@@ -65,15 +55,7 @@ impl Keyed for LinkEntry {
 
     ghost own = { link_key };
 
-    ghost less = { pair_less };
-
-    ghost order = { Prim.search rules };
-
     fn key(&self) -> (u16, u16) {
         (self.supplier, self.shipper)
-    }
-
-    fn below(a: &(u16, u16), b: &(u16, u16)) -> bool {
-        a.0 < b.0 || (a.0 == b.0 && a.1 < b.1)
     }
 }

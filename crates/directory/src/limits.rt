@@ -1,77 +1,71 @@
-// From the numbers of a call to an entry, or nothing where one is outside its limits.
-ghost use Rattle.std.specs.Prelude.{◌≡◌, true, false, MatchOption, ◌==◌};
+// From numbers as received to an entry; refused where one of them is outside its limits.
+ghost use Rattle.std.specs.Prelude.{◌≡◌, true, MatchResult, ◌==◌};
 ghost use Rattle.market.specs.Numbers.{role_number};
-ghost use Rattle.directory.specs.Limits.{is_party, is_listable, is_yes_no, party_within, link_within, PartyRead, LinkRead};
+ghost use Rattle.directory.specs.Limits.{is_party, is_listable, is_yes_no, party_within, link_within, PartyRead, LinkRead, Outside};
 
 use crate::entries::{LinkEntry, PartyEntry};
-use market::Role;
+use market::{NewLink, NewParty, Refusal, Role};
 
-fn party_number(number: u64) -> Option<u16>
-    ensures { MatchOption result (is_party number ≡ false) (λ n. (is_party number ≡ true) × (n ≡ number)) }
+// The entry that the numbers stand for.
+impl TryFrom<NewParty> for PartyEntry {
+    type Error = Refusal;
+
+    ghost try_from_gives = { λ new result. MatchResult result (PartyRead new) (Outside (party_within new)) };
+
+    fn try_from(new: NewParty) -> Result<PartyEntry, Refusal> {
+        Ok(PartyEntry {
+            number: party_number(new.number)?,
+            role: listable_role(new.role)?,
+            qualified: yes_no(new.qualified)?,
+            sanctioned: yes_no(new.sanctioned)?,
+        })
+    }
+}
+
+// The link that the numbers stand for.
+impl TryFrom<NewLink> for LinkEntry {
+    type Error = Refusal;
+
+    ghost try_from_gives = { λ new result. MatchResult result (LinkRead new) (Outside (link_within new)) };
+
+    fn try_from(new: NewLink) -> Result<LinkEntry, Refusal> {
+        Ok(LinkEntry {
+            supplier: party_number(new.supplier)?,
+            shipper: party_number(new.shipper)?,
+        })
+    }
+}
+
+fn party_number(number: u64) -> Result<u16, Refusal>
+    ensures { MatchResult result (λ n. (is_party number ≡ true) × (n ≡ number)) (Outside (is_party number)) }
 {
-    if number >= 1 && number <= 65535 {
-        Some(number as u16)
-    } else {
-        None
+    match u16::try_from(number) {
+        Ok(number) if number >= 1 => Ok(number),
+        _ => Err(Refusal::OutsideLimits),
     }
 }
 
 // The roles that a party can be listed in.
-fn listable_role(number: u64) -> Option<Role>
-    ensures { MatchOption result (is_listable number ≡ false) (λ x. (is_listable number ≡ true) × (role_number x ≡ number)) }
+fn listable_role(number: u64) -> Result<Role, Refusal>
+    ensures { MatchResult result (λ x. (is_listable number ≡ true) × (role_number x ≡ number)) (Outside (is_listable number)) }
 {
-    match number {
-        1 => Some(Role::Gainer),
-        3 => Some(Role::GainingShipper),
-        5 => Some(Role::Mem),
-        6 => Some(Role::Dc),
-        7 => Some(Role::Da),
-        8 => Some(Role::Map),
-        _ => None,
+    match Role::try_from(number)? {
+        role @ (Role::Gainer
+        | Role::GainingShipper
+        | Role::Mem
+        | Role::Dc
+        | Role::Da
+        | Role::Map) => Ok(role),
+        _ => Err(Refusal::OutsideLimits),
     }
 }
 
-fn yes_no(number: u64) -> Option<bool>
-    ensures { MatchOption result (is_yes_no number ≡ false) (λ b. (is_yes_no number ≡ true) × (b ≡ (number == 1))) }
+fn yes_no(number: u64) -> Result<bool, Refusal>
+    ensures { MatchResult result (λ b. (is_yes_no number ≡ true) × (b ≡ (number == 1))) (Outside (is_yes_no number)) }
 {
     match number {
-        0 => Some(false),
-        1 => Some(true),
-        _ => None,
+        0 => Ok(false),
+        1 => Ok(true),
+        _ => Err(Refusal::OutsideLimits),
     }
-}
-
-pub fn party_entry(number: u64, role: u64, qualified: u64, sanctioned: u64) -> Option<PartyEntry>
-    ensures { MatchOption result (party_within number role qualified sanctioned ≡ false) (PartyRead number role qualified sanctioned) }
-{
-    let Some(number) = party_number(number) else {
-        return None;
-    };
-    let Some(role) = listable_role(role) else {
-        return None;
-    };
-    let Some(qualified) = yes_no(qualified) else {
-        return None;
-    };
-    let Some(sanctioned) = yes_no(sanctioned) else {
-        return None;
-    };
-    Some(PartyEntry {
-        number,
-        role,
-        qualified,
-        sanctioned,
-    })
-}
-
-pub fn link_entry(supplier: u64, shipper: u64) -> Option<LinkEntry>
-    ensures { MatchOption result (link_within supplier shipper ≡ false) (LinkRead supplier shipper) }
-{
-    let Some(supplier) = party_number(supplier) else {
-        return None;
-    };
-    let Some(shipper) = party_number(shipper) else {
-        return None;
-    };
-    Some(LinkEntry { supplier, shipper })
 }
