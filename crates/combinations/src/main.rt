@@ -12,7 +12,7 @@ use std::alloc::{AllocError, Global};
 use std::io::{BufRead, BufReader};
 
 // The replies to the script's lines, over a register and an outbox.
-fn replies<R: Register, O: Outbox>(
+fn replies<R: Register + Drop, O: Outbox + Drop>(
     heap: Global,
     register: R,
     outbox: O,

@@ -23,12 +23,7 @@ pub struct Desk<'a, 'b, 'c, R, O, C> {
 
 impl<'a, 'b, 'c, R: Register, O: Outbox, C: Calendar> Desk<'a, 'b, 'c, R, O, C> {
     // A desk over the stores as they are, with its clock at 0, before its first line.
-    pub fn new(
-        register: R,
-        outbox: O,
-        directory: &'a mut PartyBook<'b, 'c>,
-        calendar: C,
-    ) -> Self
+    pub fn new(register: R, outbox: O, directory: &'a mut PartyBook<'b, 'c>, calendar: C) -> Self
         ensures engine { (result.engine.register ≡ register) × (result.engine.clock ≡ 0) }
         ensures outbox { result.outbox ≡ outbox }
         ensures directory { result.directory.now ≡ directory.old }

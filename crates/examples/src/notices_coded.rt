@@ -20,10 +20,18 @@ fn secured_to_the_dcc(rt: HostRuntime) {
 #[test]
 fn refused(rt: HostRuntime) {
     assert!(rt; Notice::try_from(&SECURED[0..15]).is_err());
-    assert!(rt; Notice::try_from(&[0, 0, 0, 0, 0, 0, 0, 7, 0, 0, 3, 0xfc, 0, 0, 11, 9][..]).is_err());
-    assert!(rt; Notice::try_from(&[0, 0, 0, 0, 0, 0, 0, 7, 0, 0, 3, 0xfc, 0, 0, 8, 14][..]).is_err());
-    assert!(rt; Notice::try_from(&[0, 0, 0, 0, 0, 0, 0, 7, 0, 0, 3, 0xfc, 0, 1, 8, 9][..]).is_err());
-    assert!(rt; Notice::try_from(&[0, 0, 0, 0, 0, 0, 0, 0, 0, 0, 3, 0xfc, 0, 0, 8, 9][..]).is_err());
+    assert!(rt;
+        Notice::try_from(&[0, 0, 0, 0, 0, 0, 0, 7, 0, 0, 3, 0xfc, 0, 0, 11, 9][..]).is_err()
+    );
+    assert!(rt;
+        Notice::try_from(&[0, 0, 0, 0, 0, 0, 0, 7, 0, 0, 3, 0xfc, 0, 0, 8, 14][..]).is_err()
+    );
+    assert!(rt;
+        Notice::try_from(&[0, 0, 0, 0, 0, 0, 0, 7, 0, 0, 3, 0xfc, 0, 1, 8, 9][..]).is_err()
+    );
+    assert!(rt;
+        Notice::try_from(&[0, 0, 0, 0, 0, 0, 0, 0, 0, 0, 3, 0xfc, 0, 0, 8, 9][..]).is_err()
+    );
     assert!(rt;
         Notice::try_from(&[0, 0, 0, 0, 0, 0, 0, 7, 0x08, 0x95, 0x44, 0, 0, 0, 8, 9][..]).is_err()
     );
