@@ -11,7 +11,7 @@ use market::{Calendar, Outbox, Register};
 use words::FaultReport;
 
 // A register with its engine, an outbox, a directory and a calendar, and how many lines came. Register,
-// outbox and calendar may be lent as well; the directory always is, since others list parties in it too.
+// outbox and calendar are held by value, or lent; the directory is lent.
 #[derive(Drop)]
 pub struct Desk<'a, 'b, 'c, R, O, C> {
     engine: Engine<R>,

@@ -4,20 +4,14 @@ ghost use Rattle.desk.specs.Replies.{text_of, reply_to, added_reply};
 
 use engine::Answer;
 use market::{Notice, Refusal};
-use rules::Turn;
 use std::fmt;
 use words::FaultReport;
 
 #[derive(Clone, Copy, Debug, PartialEq, Eq)]
 pub enum Reply {
-    // Accepted, and there is no more to say.
-    Done,
+    // Accepted, with the engine's answer; an addition to the directory is done.
+    Accepted(Answer),
     Refused(Refusal),
-    Notice(Notice),
-    // Nothing waits.
-    Nothing,
-    Step { point: u64, turn: Turn, moment: u32 },
-    Reached(u32),
     Fault(FaultReport),
 }
 
@@ -27,22 +21,8 @@ impl From<Result<Answer, Refusal>> for Reply {
 
     fn from(answer: Result<Answer, Refusal>) -> Reply {
         match answer {
+            Ok(answer) => Reply::Accepted(answer),
             Err(refusal) => Reply::Refused(refusal),
-            Ok(Answer::Done) => Reply::Done,
-            Ok(Answer::Taken(Some(notice))) => Reply::Notice(notice),
-            Ok(Answer::Taken(None)) => Reply::Nothing,
-            Ok(
-                Answer::Stepped {
-                    point,
-                    turn,
-                    moment,
-                },
-            ) => Reply::Step {
-                point,
-                turn,
-                moment,
-            },
-            Ok(Answer::Reached(moment)) => Reply::Reached(moment),
         }
     }
 }
@@ -52,10 +32,7 @@ impl From<Result<(), Refusal>> for Reply {
     ghost from_gives = { λ answer reply. reply ≡ added_reply answer };
 
     fn from(answer: Result<(), Refusal>) -> Reply {
-        match answer {
-            Err(refusal) => Reply::Refused(refusal),
-            Ok(()) => Reply::Done,
-        }
+        Reply::from(answer.map(|()| Answer::Done))
     }
 }
 
@@ -64,27 +41,33 @@ impl fmt::Display for Reply {
 
     fn fmt<W: fmt::Write>(&self, f: &mut fmt::Formatter<W>) -> fmt::Result {
         match *self {
-            Reply::Done => write!(f, "ok"),
-            Reply::Refused(refusal) => write!(f, "refused {}", u8::from(refusal)),
-            Reply::Notice(
-                Notice {
-                    point,
-                    moment,
-                    party,
-                    kind,
-                    role,
-                },
+            Reply::Accepted(Answer::Done) => write!(f, "ok"),
+            Reply::Accepted(
+                Answer::Taken(
+                    Some(
+                        Notice {
+                            point,
+                            moment,
+                            party,
+                            kind,
+                            role,
+                        },
+                    ),
+                ),
             ) => {
                 let (kind, role) = (u8::from(kind), u8::from(role));
                 write!(f, "notice {kind} {role} {party} {point} {moment}")
             }
-            Reply::Nothing => write!(f, "none"),
-            Reply::Step {
-                point,
-                turn,
-                moment,
-            } => write!(f, "step {point} {turn} {moment}"),
-            Reply::Reached(moment) => write!(f, "reached {moment}"),
+            Reply::Accepted(Answer::Taken(None)) => write!(f, "none"),
+            Reply::Accepted(
+                Answer::Stepped {
+                    point,
+                    turn,
+                    moment,
+                },
+            ) => write!(f, "step {point} {turn} {moment}"),
+            Reply::Accepted(Answer::Reached(moment)) => write!(f, "reached {moment}"),
+            Reply::Refused(refusal) => write!(f, "refused {}", u8::from(refusal)),
             Reply::Fault(report) => write!(f, "{report}"),
         }
     }

@@ -34,6 +34,7 @@ addition None false = Err NoPlace
 -- a new point joins where its place exists, else all stays; after it a place may be gone, but none appears
 pub record Added (p : Point) (r : Result (Unit {0}) AddError) (s t : Registered) : Type 0 where
   pub value : r ≡ addition (s.look p.number) (s.place p.number)
+  pub accepted : is_ok r ≡ s.place p.number
   pub after : (k : ℕ) → t.look k ≡ put_at (is_ok r) p s.look k
   pub shrinks : (k : ℕ) → t.place k ≡ true → s.place k ≡ true
   pub refused : is_ok r ≡ false → (k : ℕ) → t.place k ≡ s.place k

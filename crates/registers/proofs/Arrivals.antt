@@ -102,7 +102,7 @@ module _ (xs : List Point) (a : Apart xs) (k : ℕ) where
 
 -- ---- an addition and a replacement, where the first n points are held
 pub there_already : (t : Records Point) (p : Point) (i : ℕ) → Stands t.items p.number i → Added p (Err AlreadyThere) (points_of t) (points_of t)
-there_already t p i h = record { value = rw (h.there p) refl; after = λ k. refl; shrinks = λ k e. e; refused = λ no k. refl }
+there_already t p i h = record { value = rw (h.there p) refl; accepted = rw (h.there p) refl; after = λ k. refl; shrinks = λ k e. e; refused = λ no k. refl }
 
 module _ (xs : List Point) (n : ℕ) (fits : n ≤ length xs) (a : Apart (take n xs)) (t : Records Point) (held : record { items = take n xs; room = length xs } ≡ t) (p : Point) where
   pub apart_add : (n ≡ length xs → ⊥) → point_in t.items p.number ≡ None → (n + 1 ≤ length (set xs n p)) × Apart (take (n + 1) (set xs n p))

@@ -31,10 +31,15 @@ lowest_first xs n (Some p) h = record {
   none = λ k le lt. h.2 k (grind (arith, nat_tests)) (grind (arith, nat_tests));
 }
 
--- a number is free of a point where it has a place, so a place decides as room does
+-- a number has a place only where no point has it, so a place decides as room does
 room_for : (o : Option Point) (b : Bool) → addition o b ≡ addition o (not (is_some o) && b)
 room_for None b = refl
 room_for (Some p) b = refl
+
+accepted_for : (o : Option Point) (b : Bool) → is_ok (addition o b) ≡ not (is_some o) && b
+accepted_for None true = refl
+accepted_for None false = refl
+accepted_for (Some p) b = refl
 
 some_put : (r : Bool) (p : Point) (f : ℕ → Option Point) (k : ℕ) → is_some (put_at r p f k) ≡ false → is_some (f k) ≡ false
 some_put r p f k h = grind (arith, nat_tests)
@@ -47,6 +52,7 @@ module _ (p : Point) (t u : Records Point) (room : u.room ≡ t.room) where
   pub added : (r : Result (Unit {0}) AddError) → r ≡ addition (point_in t.items p.number) (ltb (length t.items) t.room) → ((k : ℕ) → point_in u.items k ≡ cond (is_ok r && is_eq (nat_cmp p.number k)) (Some p) (point_in t.items k)) → length u.items ≡ cond (is_ok r) (length t.items + 1) (length t.items) → Added p r (points_of t) (points_of u)
   added r told keyed count = record {
     value = told ∙ room_for (point_in t.items p.number) (ltb (length t.items) t.room);
+    accepted = ap is_ok told ∙ accepted_for (point_in t.items p.number) (ltb (length t.items) t.room);
     after = by_number (is_ok r) keyed;
     shrinks = λ k h. let put = ap is_some (by_number (is_ok r) keyed k) in let less = some_put (is_ok r) p (point_in t.items) k in grind (arith, nat_tests);
     refused = λ no k. let put = ap is_some (by_number (is_ok r) keyed k) in grind (arith, nat_tests);
