@@ -8,7 +8,8 @@ ghost use Rattle.registers.specs.Points.{point_in, points_of};
 use market::{Absent, AddError, Point, Register};
 use std::marker::Model;
 
-// The points stand first in the slice. Every place of the slice can be used. No Vec: the memory is lent.
+// The points stand first in the slice. Every place of the slice can be used. No Vec: there is no heap here,
+// and the memory is what the caller lends.
 #[derive(Drop)]
 pub struct Roll<'a> {
     items: &'a mut [Point],
@@ -51,7 +52,7 @@ impl<'a> Roll<'a> {
     {
         let records = self.records();
         let mut at = None;
-        // By index, as a roll is read.
+        // By index: a roll is read record by record, by rule.
         for i in 0..records.len() {
             if records[i].number == number {
                 at = Some(i);
@@ -65,11 +66,8 @@ impl<'a> Register for Roll<'a> {
     ghost known = { points_of };
 
     fn read(&self, number: u64) -> Option<Point> {
-        let records = self.records();
-        match self.locate(number) {
-            Some(at) => Some(records[at]),
-            None => None,
-        }
+        let at = self.locate(number)?;
+        Some(self.records()[at])
     }
 
     fn lowest_from(&self, number: u64) -> Option<Point> {
@@ -111,6 +109,7 @@ fn lowest_of(records: &[Point], number: u64) -> Option<Point>
     ensures { LowestFrom (point_in records.now) number result }
 {
     let mut lowest: Option<Point> = None;
+    // By index, as above.
     for i in 0..records.len() {
         lowest = lower_of(number, records[i], lowest);
     }

@@ -27,7 +27,8 @@ pub trait Keyed {
         ensures { result ≡ own self.now };
 }
 
-// Records in the order of their keys, no two of one key. They stand first in the slice.
+// Records in the order of their keys, no two of one key. They stand first in the slice. No map and no Vec:
+// there is no heap here, and the memory is what the caller lends.
 #[derive(Drop)]
 pub struct OrderedTable<'a, T: Keyed + Copy> {
     items: &'a mut [T],

@@ -1,10 +1,10 @@
 -- A line's first word ends at its first space.
-use Rattle.std.proofs.Common.{◌≡◌, ℕ, ◌+◌, ◌-◌, ◌==◌, List, [], ◌∷◌, length, take, drop, position, Option, Some, None, sym, ap, ◌∙◌, arith, length-drop, take_all, drop-drop}
+use Rattle.std.proofs.Common.{◌≡◌, ℕ, ◌+◌, ◌-◌, ◌==◌, List, [], ◌∷◌, length, take, drop, filter, position, Option, Some, None, sym, ap, ◌∙◌, arith, length-drop, take_all, drop-drop}
 use Rattle.std.proofs.lemmas.Option.{cond_some}
 use Rattle.std.proofs.lemmas.Bool.{ltb-true}
 use Rattle.std.proofs.lemmas.Bool.Decides.{nat_tests}
-use Rattle.std.proofs.lemmas.List.Splits.{slice_split_none, slice_split_first}
-use Rattle.std.proofs.lemmas.List.Sums.{fails_before_first}
+use Rattle.std.proofs.lemmas.List.Splits.{length-slice_split, slice_split_none, slice_split_first}
+use Rattle.std.proofs.lemmas.List.Sums.{fails_before_first, length-filter}
 use Rattle.words.specs.Words.{words, left}
 
 none_is_space : (s : List ℕ) → None ≡ position (λ b. b == 32) s → words s ≡ s ∷ []
@@ -15,6 +15,10 @@ first_is_space : (s : List ℕ) (end : ℕ) → Some end ≡ position (λ b. b =
 first_is_space s end found =
     let at = cond_some _ _ _ (sym found) in
     slice_split_first (λ b. b == 32) s 0 (ltb-true _ _ at.0) ∙ ap (λ n. take n s ∷ words (drop (n + 1) s)) at.1
+
+-- a line has one word more than spaces
+spaces : (line : List ℕ) → length (filter (λ b. b == 32) line) + 1 ≡ length (words line)
+spaces line = ap (λ n. n + 1) (length-filter (λ b. b == 32) line) ∙ sym (length-slice_split (λ b. b == 32) line)
 
 -- what a slice from `place` on holds
 abbrev rest : List ℕ → ℕ → List ℕ
@@ -38,3 +42,7 @@ module _ (line : List ℕ) (at : Option ℕ) (place : ℕ) (is : at ≡ Some pla
   -- the first space stands `end` bytes on
   pub next : (end : ℕ) → Some end ≡ position (λ b. b == 32) (rest line place) → left line at ≡ take end (rest line place) ∷ words (drop (place + end + 1) line)
   next end found = here ∙ first_is_space _ end found ∙ ap (λ bytes. take end (rest line place) ∷ words bytes) (after end)
+
+  -- a word more is left than spaces
+  pub counted : (n : ℕ) → n ≡ length (filter (λ b. b == 32) (rest line place)) → n + 1 ≡ length (left line at)
+  counted n told = ap (λ k. k + 1) told ∙ spaces (rest line place) ∙ ap length (sym here)

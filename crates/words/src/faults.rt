@@ -41,19 +41,22 @@ impl From<LineFault> for FeedFault {
     }
 }
 
-impl LineFault {
-    // The number that the fault is printed as.
-    pub fn number(self) -> u8
-        ensures { result ≡ fault_number self }
-    {
-        match self {
+// The number that the fault is printed as. By cases: one of them holds the field's fault, so there is no
+// discriminant to be cast.
+impl From<LineFault> for u8 {
+    ghost from_gives = { λ fault number. number ≡ fault_number fault };
+
+    fn from(fault: LineFault) -> u8 {
+        match fault {
             LineFault::Field(_) => 21,
             LineFault::UnknownWord => 22,
             LineFault::WrongCount => 23,
             LineFault::TooLong => 24,
         }
     }
+}
 
+impl LineFault {
     // The place of the field that is at fault. A fault of the whole line is printed with field 0.
     pub fn field(self) -> usize
         ensures { result ≡ fault_field self }
@@ -77,12 +80,7 @@ impl fmt::Display for FaultReport {
 
     fn fmt<W: fmt::Write>(&self, f: &mut fmt::Formatter<W>) -> fmt::Result {
         let FeedFault::Line(fault) = self.fault;
-        write!(
-            f,
-            "line {} fault {} field {}",
-            self.line,
-            fault.number(),
-            fault.field()
-        )
+        let (line, number, field) = (self.line, u8::from(fault), fault.field());
+        write!(f, "line {line} fault {number} field {field}")
     }
 }

@@ -1,5 +1,5 @@
 // A reader over a line, which hands out the line's words as parts of it.
-ghost use Rattle.std.specs.Prelude.{◌≡◌, ◌+◌, ◌≤◌, [], ◌∷◌, length, take, drop, position, IfSome, IfNone, Some, ◌==◌};
+ghost use Rattle.std.specs.Prelude.{◌≡◌, ◌+◌, ◌≤◌, [], ◌∷◌, length, take, drop, filter, position, IfSome, IfNone, Some, ◌==◌};
 ghost use Rattle.std.specs.Option.{ForSome};
 ghost use Rattle.words.specs.Words.{words, left};
 
@@ -23,6 +23,13 @@ fn first_space(s: &[u8]) -> Option<usize>
     ensures { result ≡ position (λ b. b == 32) s.now }
 {
     s.iter().position(|b| *b == b' ')
+}
+
+fn count_spaces(s: &[u8]) -> usize
+    ensures count { result ≡ length (filter (λ b. b == 32) s.now) }
+    ensures within { result ≤ length s.now }
+{
+    s.iter().filter(|b| **b == b' ').count()
 }
 
 impl<'a> Reader<'a> {
@@ -60,16 +67,21 @@ impl<'a> Reader<'a> {
         Some((Word { place, text }, &rest[end + 1..]))
     }
 
+    // How many words are left: one more than spaces.
+    #[tactic(auto, using(crate::proofs::Splits::counted))]
+    fn count_left(&self) -> usize
+        ensures { result ≡ length (left self.now.line.now self.now.at) }
+    {
+        match self.at {
+            Some(at) => count_spaces(&self.line[at..]) + 1,
+            None => 0,
+        }
+    }
+
     // Whether exactly so many words are left.
     pub fn has_left(&self, count: usize) -> bool
         ensures { result ≡ (length (left self.now.line.now self.now.at) == count) }
     {
-        let mut reader = *self;
-        for _ in 0..count {
-            if reader.step().is_none() {
-                return false;
-            }
-        }
-        reader.step().is_none()
+        self.count_left() == count
     }
 }
