@@ -1,6 +1,6 @@
 // From a line to its command.
 ghost use Rattle.std.specs.Prelude.{◌≡◌};
-ghost use Rattle.words.specs.Words.{left};
+ghost use Rattle.words.specs.Readers.{unread};
 ghost use Rattle.lines.specs.Decoding.{fields_of, command_of, decoded, accepted};
 
 use crate::commands::Command;
@@ -32,7 +32,7 @@ pub fn decode(line: &[u8]) -> Result<Command, LineFault>
 
 // The command that the verb gives with the fields that are left.
 fn command(verb: Verb, reader: Reader<'_>) -> Result<Command, LineFault>
-    ensures { result ≡ command_of verb (left reader.entry.line.now reader.entry.at) }
+    ensures { result ≡ command_of verb (unread reader.entry) }
 {
     match verb {
         Verb::Party => {
@@ -79,7 +79,7 @@ fn command(verb: Verb, reader: Reader<'_>) -> Result<Command, LineFault>
 
 // The numbers of exactly `N` fields.
 fn fields<const N: usize>(mut reader: Reader<'_>) -> Result<[u64; N], LineFault>
-    ensures { result ≡ fields_of N (left reader.entry.line.now reader.entry.at) }
+    ensures { result ≡ fields_of N (unread reader.entry) }
 {
     if !reader.has_left(N) {
         return Err(LineFault::WrongCount);

@@ -1,3 +1,4 @@
 pub mod Words
 pub mod Faults
 pub mod Numbers
+pub mod Readers

@@ -1,7 +1,7 @@
 // A reader over a line, which hands out the line's words as parts of it.
 ghost use Rattle.std.specs.Prelude.{◌≡◌, ◌+◌, ◌≤◌, [], ◌∷◌, length, take, drop, filter, position, IfSome, IfNone, Some, ◌==◌};
 ghost use Rattle.std.specs.Option.{ForSome};
-ghost use Rattle.words.specs.Words.{words, left};
+ghost use Rattle.words.specs.Words.{words};
 
 // A word, as the part of its line that starts at `place`.
 #[derive(Clone, Copy, Debug, PartialEq, Eq)]
@@ -33,11 +33,13 @@ fn count_spaces(s: &[u8]) -> usize
 }
 
 impl<'a> Reader<'a> {
+    ghost use Rattle.words.specs.Readers.{unread};
+
     // A reader at the line's first word.
     pub fn over(line: &'a [u8]) -> Reader<'a>
         ensures line { result.line.now ≡ line.now }
         ensures start { result.at ≡ Some 0 }
-        ensures words { left result.line.now result.at ≡ words line.now }
+        ensures words { unread result ≡ words line.now }
     {
         Reader { line, at: Some(0) }
     }
@@ -46,10 +48,10 @@ impl<'a> Reader<'a> {
     #[tactic(auto, using(crate::proofs::Splits::last, crate::proofs::Splits::next))]
     pub fn step(&mut self) -> Option<(Word<'a>, &'a [u8])>
         ensures same { self.new.line.now ≡ self.old.line.now }
-        ensures none { IfNone result (left self.old.line.now self.old.at ≡ []) }
-        ensures ended { IfNone result (left self.new.line.now self.new.at ≡ []) }
-        ensures words { IfSome result (λ p. left self.old.line.now self.old.at
-            ≡ p.0.text.now ∷ left self.new.line.now self.new.at) }
+        ensures none { IfNone result (unread self.old ≡ []) }
+        ensures ended { IfNone result (unread self.new ≡ []) }
+        ensures words { IfSome result (λ p. unread self.old
+            ≡ p.0.text.now ∷ unread self.new) }
         ensures place { IfSome result (λ p. self.old.at ≡ Some p.0.place) }
         ensures text { IfSome result (λ p. p.0.text.now
             ≡ take (length p.0.text.now) (drop p.0.place self.old.line.now)) }
@@ -70,7 +72,7 @@ impl<'a> Reader<'a> {
     // How many words are left: one more than spaces.
     #[tactic(auto, using(crate::proofs::Splits::counted))]
     fn count_left(&self) -> usize
-        ensures { result ≡ length (left self.now.line.now self.now.at) }
+        ensures { result ≡ length (unread self.now) }
     {
         match self.at {
             Some(at) => count_spaces(&self.line[at..]) + 1,
@@ -80,7 +82,7 @@ impl<'a> Reader<'a> {
 
     // Whether exactly so many words are left.
     pub fn has_left(&self, count: usize) -> bool
-        ensures { result ≡ (length (left self.now.line.now self.now.at) == count) }
+        ensures { result ≡ (length (unread self.now) == count) }
     {
         self.count_left() == count
     }
