@@ -51,6 +51,7 @@ impl<'a> TryFrom<&'a [u8]> for Notice {
     ghost try_from_gives = { λ bytes result. MatchResult result (λ n. Valid n × (bytes_of n ≡ bytes.now)) (λ e. (e ≡ row.NotANotice) × ((n : Notified) → Valid n → bytes_of n ≢ bytes.now)) };
 
     fn try_from(bytes: &'a [u8]) -> Result<Notice, Refusal> {
+        // No `?`: the error of a wrong length would have to be thrown away by a closure first.
         let Ok(code) = <[u8; 16]>::try_from(bytes) else {
             return Err(Refusal::NotANotice);
         };
