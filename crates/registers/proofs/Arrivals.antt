@@ -1,7 +1,7 @@
 -- Points in the order of their arrival, as a look-up by number.
-use Rattle.std.proofs.Common.{◌≡◌, ℕ, zero, suc, ◌+◌, ◌<◌, ◌≤◌, false, cond, not, ◌&&◌, eqb, ltb, leb, List, [], ◌∷◌, ◌++◌, length, get_or, take, set, is_some, Some, None, Ok, Err, Option, sym, refl, ap, ◌∙◌, subst, ⊎_elim, arith, MatchOption}
-use Rattle.std.proofs.lemmas.List.{take_more, take_more_set, length-set, length-take-le, get_or_default}
-use Rattle.std.proofs.lemmas.Bool.{cases_lt, cond_both, leb-true, leb-false, ltb-true, and_parts}
+use Rattle.std.proofs.Common.{◌≡◌, ℕ, zero, suc, ◌+◌, ◌<◌, ◌≤◌, false, cond, not, ◌&&◌, eqb, ltb, leb, List, [], ◌∷◌, ◌++◌, length, get_or, take, set, is_some, Some, None, Ok, Err, Option, sym, refl, ap, ◌∙◌, subst, arith, MatchOption}
+use Rattle.std.proofs.lemmas.List.{take_more, take_more_set, length-set, length-take-le}
+use Rattle.std.proofs.lemmas.Bool.{cond_both, leb-true, leb-false, ltb-true, and_parts}
 use Rattle.std.proofs.lemmas.Bool.Decides.{nat_tests}
 use Rattle.market.specs.Looks.{Lowest, LowestFrom}
 use Rattle.market.specs.Stores.{Added, Replaced}
@@ -69,17 +69,6 @@ pub record At (xs : List Point) (k i : ℕ) : Type 0 where
 
 abbrev pub Walked : List Point → ℕ → ℕ → Option ℕ → Type 0
 Walked xs k i o = MatchOption o ((j : ℕ) (d : Point) → j < i → (get_or xs j d).number ≡ k → ⊥) (λ at. (at < i) × At xs k at)
-
-module _ (xs : List Point) (k i : ℕ) (d : Point) (l : i < length xs) where
-  pub walk_hit : (get_or xs i d).number ≡ k → Walked xs k (i + 1) (Some i)
-  walk_hit h = (omega arith, record { within = l; same = λ e. ap number_of (get_or_default xs i e d l) ∙ h })
-
-  pub walk_past : (o : Option ℕ) → ((get_or xs i d).number ≡ k → ⊥) → Walked xs k i o → Walked xs k (i + 1) o
-  walk_past None h w = λ j e m.
-      ⊎_elim (λ b. w j e b)
-      (λ a same. let is : j ≡ i = omega arith in h (ap number_of (get_or_default xs i d e l) ∙ ap (λ z. (get_or xs z e).number) (sym is) ∙ same))
-      (cases_lt j i)
-  walk_past (Some j) h w = let m = w.0 in (omega arith, w.1)
 
 module _ (xs : List Point) (a : Apart xs) (k : ℕ) where
   before : (i : ℕ) → At xs k i → (j : ℕ) (e : Point) → j < i → is_eq (nat_cmp (get_or xs j e).number k) ≡ false

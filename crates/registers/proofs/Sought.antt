@@ -1,35 +1,15 @@
 -- Points of a list as a register: a look-up by number, and what an addition and a replacement do to it.
-use Rattle.std.proofs.Common.{◌≡◌, ℕ, ◌+◌, Bool, true, false, cond, not, ◌&&◌, ltb, List, [], ◌∷◌, length, is_some, is_ok, IfSome, Some, None, Option, Result, refl, ap, ◌∙◌, arith}
-use Rattle.std.proofs.lemmas.Bool.{cond_both}
+use Rattle.std.proofs.Common.{◌≡◌, ℕ, ◌+◌, Bool, true, false, cond, not, ◌&&◌, ltb, length, is_some, is_ok, Some, None, Option, Result, refl, ap, ◌∙◌, arith}
 use Rattle.std.proofs.lemmas.Bool.Decides.{nat_tests}
 use Rattle.std.specs.Ordering.{nat_cmp, is_eq}
-use Rattle.market.specs.Looks.{put_at, LowestFrom}
+use Rattle.market.specs.Looks.{put_at}
 use Rattle.market.specs.Stores.{addition, Added, Replaced}
 use Rattle.market.specs.declared.points.Point.{Point}
 use Rattle.market.specs.declared.refusals.AddError.{AddError}
 use Rattle.market.specs.declared.refusals.Absent.{Absent}
 use Rattle.tables.proofs.Orders.{numbers_alike}
-use Rattle.tables.specs.Places.{IsFirstFrom}
-use Rattle.tables.specs.Points.{number_of}
 use Rattle.tables.specs.Tables.{Records}
 use Rattle.registers.specs.Points.{point_in, points_of}
-
-has_number : (p : Point) (k : ℕ) → is_eq (nat_cmp p.number k) ≡ true → p.number ≡ k
-has_number p k e = grind (arith, nat_tests)
-
--- a point that was found has the number asked for
-pub named : (xs : List Point) (k : ℕ) → IfSome (point_in xs k) (λ p. p.number ≡ k)
-named [] k = tt
-named (x ∷ xs) k = cond_both (is_eq (nat_cmp x.number k)) (Some x) (point_in xs k) (λ r. IfSome r (λ p. p.number ≡ k)) (has_number x k) (λ _. named xs k)
-
--- the first from a number on is the lowest
-pub lowest_first : (xs : List Point) (n : ℕ) (r : Option Point) → IsFirstFrom number_of nat_cmp xs n r → LowestFrom (point_in xs) n r
-lowest_first xs n None h = λ k le. h k (grind (arith, nat_tests))
-lowest_first xs n (Some p) h = record {
-  from = let first = h.0 in grind (arith, nat_tests);
-  there = h.1;
-  none = λ k le lt. h.2 k (grind (arith, nat_tests)) (grind (arith, nat_tests));
-}
 
 -- a number has a place only where no point has it, so a place decides as room does
 room_for : (o : Option Point) (b : Bool) → addition o b ≡ addition o (not (is_some o) && b)

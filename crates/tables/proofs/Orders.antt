@@ -30,12 +30,6 @@ module _ {K : Type 0} (cmp : K → K → Ordering) (total : IsTotalOrder cmp) wh
   pub alike_self : (a : K) → is_eq (cmp a a) ≡ true
   alike_self a = ap is_eq (tied_itself total a)
 
-  -- what is above a is not alike to what a is alike to
-  pub unlike_above : (a b k : K) → cmp a b ≡ Less → is_eq (cmp a k) ≡ true → is_eq (cmp b k) ≡ false
-  unlike_above a b k lt same =
-      let above : cmp k b ≡ Less = sym (total.congr a k b (Equal-from_test (cmp a k) same)) ∙ lt in
-      rw (total.antisymm b k, above) refl
-
   -- a is below k, and k not above q
   pub below_from : (a k q : K) → cmp a k ≡ Less → is_gt (cmp k q) ≡ false → cmp a q ≡ Less
   below_from a k q lt le = cases (cmp k q) refl le
