@@ -16,6 +16,7 @@ impl<'a> Calendar for Bits<'a> {
     ghost works = { λ s. marked s.bytes.now };
 
     fn works(&self, day: u32) -> bool {
+        // A cast, which loses nothing: there is no `From` between these types.
         let at = (day / DAYS_A_BYTE) as usize;
         self.bytes
             .get(at)

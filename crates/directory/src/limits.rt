@@ -36,6 +36,7 @@ impl TryFrom<NewLink> for LinkEntry {
     }
 }
 
+// No `TryFrom` here and below: the types are std's or another crate's.
 fn party_number(number: u64) -> Result<u16, Refusal>
     ensures { MatchResult result (λ n. (is_party number ≡ true) × (n ≡ number)) (Outside (is_party number)) }
 {

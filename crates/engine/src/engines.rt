@@ -127,6 +127,7 @@ impl<R: Register> Engine<R> {
             self.clock = moment;
             return Ok(Answer::Reached(moment));
         };
+        // A cast, since it loses nothing: the step is not after the moment. `try_from` would seem to fail.
         let due = step.moment as u32;
         let clock = self.clock.max(due);
         let answer = Answer::Stepped {

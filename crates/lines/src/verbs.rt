@@ -14,7 +14,7 @@ pub(crate) enum Verb {
 }
 
 impl Verb {
-    // The verb that is written so, byte by byte.
+    // The verb that is written so, byte by byte. A case for each word, by rule, and no other way to write one.
     pub(crate) fn from_name(name: &[u8]) -> Option<Verb>
         ensures { MatchOption result ((v : Word) → name.now ≢ name_of v) (λ v. name.now ≡ name_of v) }
     {

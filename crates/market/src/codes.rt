@@ -23,6 +23,7 @@ impl Notice {
     };
 }
 
+// No derive: it would name what a blank notice is a second time.
 impl Default for Notice {
     ghost is_default = { λ notice. notice ≡ blank };
 

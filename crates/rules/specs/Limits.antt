@@ -56,9 +56,9 @@ party_or_none n = cond (n == 0) None (Some n)
 abbrev pub party_of : ℕ → Option (Option ℕ)
 party_of n = cond (nat_le n 65535) (Some (party_or_none n)) None
 
--- a day's number
-abbrev pub day_of : ℕ → Option ℕ
-day_of n = cond (is_day n) (Some n) None
+-- a number from the least to the most
+abbrev pub between : ℕ → ℕ → ℕ → Option ℕ
+between least most n = cond (nat_le least n && nat_le n most) (Some n) None
 
 -- what the numbers of a request stand for
 abbrev pub asked_of : ℕ → ℕ → ℕ → ℕ → Option Asked

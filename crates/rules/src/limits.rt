@@ -1,6 +1,6 @@
 // The first row: numbers as received become values within their limits, or the call is refused.
 ghost use Rattle.std.specs.Prelude.{◌≡◌};
-ghost use Rattle.rules.specs.Limits.{is_point, new_point, asked_of, or_outside, moment_of, day_of, party_of};
+ghost use Rattle.rules.specs.Limits.{is_point, new_point, asked_of, or_outside, moment_of, between, party_of};
 ghost use Rattle.rules.specs.Changes.{initial_request};
 
 pub use market::limits::{LAST_DAY, LAST_MOMENT, LAST_POINT};
@@ -51,7 +51,7 @@ impl TryFrom<NewRequest> for Asked {
             point: new.point,
             gainer: party(new.gainer)?.ok_or(Refusal::OutsideLimits)?,
             shipper: party(new.shipper)?,
-            start: day(new.start)?,
+            start: between(new.start, 1, LAST_DAY)?,
         })
     }
 }
@@ -78,7 +78,7 @@ fn is_point(number: u64) -> bool
     (1..=LAST_POINT).contains(&number)
 }
 
-// The party with this number, 0 for none.
+// The party with this number, 0 for none. No `TryFrom`: both types are std's.
 fn party(number: u64) -> Result<Option<u16>, Refusal>
     ensures { result ≡ or_outside (party_of number) }
 {
@@ -89,20 +89,19 @@ fn party(number: u64) -> Result<Option<u16>, Refusal>
     }
 }
 
-fn day(number: u64) -> Result<u32, Refusal>
-    ensures { result ≡ or_outside (day_of number) }
+// The number, where it is at least and at most that.
+fn between(number: u64, least: u32, most: u32) -> Result<u32, Refusal>
+    ensures { result ≡ or_outside (between least most number) }
 {
     match u32::try_from(number) {
-        Ok(day) if (1..=LAST_DAY).contains(&day) => Ok(day),
+        Ok(number) if (least..=most).contains(&number) => Ok(number),
         _ => Err(Refusal::OutsideLimits),
     }
 }
 
+// No `TryFrom`: both types are numbers.
 pub fn moment(number: u64) -> Result<u32, Refusal>
     ensures { result ≡ or_outside (moment_of number) }
 {
-    match u32::try_from(number) {
-        Ok(moment) if moment <= LAST_MOMENT => Ok(moment),
-        _ => Err(Refusal::OutsideLimits),
-    }
+    between(number, 0, LAST_MOMENT)
 }

@@ -15,7 +15,8 @@ pub fn nth_working_day<C: Calendar>(calendar: &C, day: u32, n: u32) -> Option<u3
 {
     let skipped = n.checked_sub(1)?;
     let last = day.saturating_add(DAYS_AHEAD);
-    // From `day` on, which is passed over, since the day after it may not fit.
+    // From `day` on, which is passed over, since the day after it may not fit. The cast loses nothing: there is
+    // no `From` between these types.
     (day..=last)
         .skip(1)
         .filter(|later| calendar.works(*later))
