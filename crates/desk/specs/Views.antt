@@ -10,8 +10,8 @@ holding_of known queue d = record {
   listing = record {
     parties = d.directory.now.parties.items;
     links = d.directory.now.links.items;
-    party_places = d.directory.now.parties.room;
-    link_places = d.directory.now.links.room;
+    party_places = d.directory.now.parties.size;
+    link_places = d.directory.now.links.size;
   };
   lines = d.lines;
 }

@@ -17,7 +17,7 @@ impl<'a, 'b> PartyBook<'a, 'b> {
     // A directory in which nobody is listed, with places for as many as the slices are long.
     pub fn new(parties: &'a mut [PartyEntry], links: &'b mut [LinkEntry]) -> Self
         ensures empty { (result.parties.items ≡ []) × (result.links.items ≡ []) }
-        ensures sizes { (result.parties.room ≡ length parties.old) × (result.links.room ≡ length links.old) }
+        ensures sizes { (result.parties.size ≡ length parties.old) × (result.links.size ≡ length links.old) }
     {
         PartyBook {
             parties: OrderedTable::new(parties),
@@ -27,11 +27,11 @@ impl<'a, 'b> PartyBook<'a, 'b> {
 
     // Lists a party in a role.
     pub fn add_party(&mut self, new: NewParty) -> Result<(), Refusal>
-        ensures value { result ≡ party_answer self.old.parties.items self.old.parties.room new }
+        ensures value { result ≡ party_answer self.old.parties.items self.old.parties.size new }
         ensures after { PartyAdded new self.old.parties.items (is_ok result) self.new.parties.items }
         ensures refused { is_ok result ≡ false → self.new ≡ self.old }
         ensures same { self.new.links ≡ self.old.links }
-        ensures sizes { self.new.parties.room ≡ self.old.parties.room }
+        ensures sizes { self.new.parties.size ≡ self.old.parties.size }
     {
         let entry = PartyEntry::try_from(new)?;
         self.parties.add(entry)?;
@@ -40,11 +40,11 @@ impl<'a, 'b> PartyBook<'a, 'b> {
 
     // Lists that the shipper ships for the supplier.
     pub fn add_link(&mut self, new: NewLink) -> Result<(), Refusal>
-        ensures value { result ≡ link_answer self.old.links.items self.old.links.room new }
+        ensures value { result ≡ link_answer self.old.links.items self.old.links.size new }
         ensures after { LinkAdded new self.old.links.items (is_ok result) self.new.links.items }
         ensures refused { is_ok result ≡ false → self.new ≡ self.old }
         ensures same { self.new.parties ≡ self.old.parties }
-        ensures sizes { self.new.links.room ≡ self.old.links.room }
+        ensures sizes { self.new.links.size ≡ self.old.links.size }
     {
         let link = LinkEntry::try_from(new)?;
         self.links.add(link)?;

@@ -1,7 +1,7 @@
 // A notice to a party of the market.
 ghost use Rattle.std.specs.Prelude.{◌≡◌};
 ghost use Rattle.std.specs.Option.{ok_or};
-ghost use Rattle.market.specs.Numbers.{role_number, notice_kind_number, role_of, notice_kind_of, roles, unknown};
+ghost use Rattle.market.specs.Numbers.{role_number, notice_kind_number, role_of, notice_kind_of, unknown};
 
 use crate::refusals::UnknownNumber;
 

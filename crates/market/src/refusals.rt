@@ -1,7 +1,7 @@
 // Why a call is refused: the rows of the table of refusals, in its order; and why a store refuses a change.
 ghost use Rattle.std.specs.Prelude.{◌≡◌};
 ghost use Rattle.market.specs.Numbers.{refusal_number};
-ghost use Rattle.market.specs.Refusals.{row_of_unknown, row_of_add, row_of_absent, row_of_full};
+ghost use Rattle.market.specs.Refusals.{row_of_unknown, row_of_add};
 
 // A row of the table, by its number.
 #[derive(Clone, Copy, Debug, PartialEq, Eq)]
@@ -73,22 +73,6 @@ impl From<AddError> for Refusal {
 #[derive(Clone, Copy, Debug, PartialEq, Eq)]
 pub struct Absent;
 
-impl From<Absent> for Refusal {
-    ghost from_gives = { λ absent refusal. refusal ≡ row_of_absent absent };
-
-    fn from(_: Absent) -> Refusal {
-        Refusal::NoSuchPoint
-    }
-}
-
 // An outbox has no free place for a notice.
 #[derive(Clone, Copy, Debug, PartialEq, Eq)]
 pub struct OutboxFull;
-
-impl From<OutboxFull> for Refusal {
-    ghost from_gives = { λ full refusal. refusal ≡ row_of_full full };
-
-    fn from(_: OutboxFull) -> Refusal {
-        Refusal::OutboxFull
-    }
-}

@@ -2,11 +2,8 @@
 #![tactic(auto)]
 
 mod cells;
-pub mod places;
+mod places;
 pub mod rings;
 mod slots;
 
-pub use cells::Cells;
-pub use places::Places;
 pub use rings::{ByteRing, PlaceRing, Ring};
-pub use slots::Slots;

@@ -27,7 +27,7 @@ pub type ByteRing<'a> = Ring<Cells<'a>>;
 
 impl<P: Places> Ring<P> {
     // An empty outbox with all the places; with none it refuses every notice.
-    pub fn over(places: P) -> Self
+    pub(crate) fn over(places: P) -> Self
         ensures { queue_of (P.notices result.places) result.first result.count ≡ empty (length (P.notices places)) }
     {
         Ring {

@@ -93,21 +93,21 @@ module _ (xs : List Point) (a : Apart xs) (k : ℕ) where
 pub there_already : (t : Records Point) (p : Point) (i : ℕ) → Stands t.items p.number i → Added p (Err AlreadyThere) (points_of t) (points_of t)
 there_already t p i h = record { value = rw (h.there p) refl; accepted = rw (h.there p) refl; after = λ k. refl; shrinks = λ k e. e; refused = λ no k. refl }
 
-module _ (xs : List Point) (n : ℕ) (fits : n ≤ length xs) (a : Apart (take n xs)) (t : Records Point) (held : record { items = take n xs; room = length xs } ≡ t) (p : Point) where
+module _ (xs : List Point) (n : ℕ) (fits : n ≤ length xs) (a : Apart (take n xs)) (t : Records Point) (held : record { items = take n xs; size = length xs } ≡ t) (p : Point) where
   pub apart_add : (n ≡ length xs → ⊥) → point_in t.items p.number ≡ None → (n + 1 ≤ length (set xs n p)) × Apart (take (n + 1) (set xs n p))
   apart_add free none =
       let absent : point_in (take n xs) p.number ≡ None = subst (λ u. point_in u.items p.number ≡ None) (sym held) none in
       let long = length-set xs n p in
       (omega (arith, long), subst Apart (sym (take_more_set xs n p (omega arith))) (apart_last (take n xs) p a absent))
 
-  pub joined : (n ≡ length xs → ⊥) → point_in t.items p.number ≡ None → Added p (Ok tt) (points_of t) (points_of (record { items = take (n + 1) (set xs n p); room = length (set xs n p) }))
-  joined free = subst (λ u. point_in u.items p.number ≡ None → Added p (Ok tt) (points_of u) (points_of (record { items = take (n + 1) (set xs n p); room = length (set xs n p) }))) held
+  pub joined : (n ≡ length xs → ⊥) → point_in t.items p.number ≡ None → Added p (Ok tt) (points_of t) (points_of (record { items = take (n + 1) (set xs n p); size = length (set xs n p) }))
+  joined free = subst (λ u. point_in u.items p.number ≡ None → Added p (Ok tt) (points_of u) (points_of (record { items = take (n + 1) (set xs n p); size = length (set xs n p) }))) held
       (λ none.
       let few = length-take-le n xs fits in
       let more = length-take-le (n + 1) (set xs n p) (omega (arith, length-set xs n p)) in
       let gone = λ (k : ℕ). not_some (point_in (take n xs) k) in
-      added p (record { items = take n xs; room = length xs }) (record { items = take (n + 1) (set xs n p); room = length (set xs n p) }) (length-set xs n p) (Ok tt)
-      (rw none (let room = few in grind (arith, nat_tests)))
+      added p (record { items = take n xs; size = length xs }) (record { items = take (n + 1) (set xs n p); size = length (set xs n p) }) (length-set xs n p) (Ok tt)
+      (rw none (let size = few in grind (arith, nat_tests)))
       (λ k. ap (λ ys. point_in ys k) (take_more_set xs n p (omega arith)) ∙ find_last k (take n xs) p ∙ (let same = ap (point_in (take n xs)) {x = p.number} {y = k} in let none_at = not_some (point_in (take n xs) k) in grind (arith, nat_tests)))
       (omega (arith, few, more)))
 
@@ -118,11 +118,11 @@ module _ (xs : List Point) (n : ℕ) (fits : n ≤ length xs) (a : Apart (take n
     pub apart_replace : (n ≤ length (set xs i p)) × Apart (take n (set xs i p))
     apart_replace = (omega (arith, length-set xs i p), ap apart swapped ∙ apart-swap p (take n xs) ∙ a)
 
-    pub put : Replaced p (Ok tt) (points_of t) (points_of (record { items = take n (set xs i p); room = length (set xs i p) }))
+    pub put : Replaced p (Ok tt) (points_of t) (points_of (record { items = take n (set xs i p); size = length (set xs i p) }))
     put =
         let r : point_in (take n xs) p.number ≡ Some (get_or t.items i p) = subst (λ u. point_in u.items p.number ≡ Some (get_or t.items i p)) (sym held) (at.there p) in
-        subst (λ u. Replaced p (Ok tt) (points_of u) (points_of (record { items = take n (set xs i p); room = length (set xs i p) }))) held
-        (replaced p (record { items = take n xs; room = length xs }) (record { items = take n (set xs i p); room = length (set xs i p) }) (length-set xs i p) (Ok tt)
+        subst (λ u. Replaced p (Ok tt) (points_of u) (points_of (record { items = take n (set xs i p); size = length (set xs i p) }))) held
+        (replaced p (record { items = take n xs; size = length xs }) (record { items = take n (set xs i p); size = length (set xs i p) }) (length-set xs i p) (Ok tt)
         (rw r refl)
         (λ k. ap (λ ys. point_in ys k) swapped ∙ find-swap number_of nat_cmp nat_cmp_total p (take n xs) k ∙ (rw r refl))
         (ap length swapped ∙ length_swap p (take n xs)))

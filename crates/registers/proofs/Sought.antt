@@ -24,15 +24,15 @@ accepted_for (Some p) b = refl
 some_put : (r : Bool) (p : Point) (f : ℕ → Option Point) (k : ℕ) → is_some (put_at r p f k) ≡ false → is_some (f k) ≡ false
 some_put r p f k h = grind (arith, nat_tests)
 
-module _ (p : Point) (t u : Records Point) (room : u.room ≡ t.room) where
+module _ (p : Point) (t u : Records Point) (room : u.size ≡ t.size) where
   by_number : (r : Bool) → ((k : ℕ) → point_in u.items k ≡ cond (r && is_eq (nat_cmp p.number k)) (Some p) (point_in t.items k)) → (k : ℕ) → point_in u.items k ≡ put_at r p (point_in t.items) k
   by_number r h k = h k ∙ ap (λ b. cond (r && b) (Some p) (point_in t.items k)) (numbers_alike p.number k)
 
   -- the point joined, or all stayed
-  pub added : (r : Result (Unit {0}) AddError) → r ≡ addition (point_in t.items p.number) (ltb (length t.items) t.room) → ((k : ℕ) → point_in u.items k ≡ cond (is_ok r && is_eq (nat_cmp p.number k)) (Some p) (point_in t.items k)) → length u.items ≡ cond (is_ok r) (length t.items + 1) (length t.items) → Added p r (points_of t) (points_of u)
+  pub added : (r : Result (Unit {0}) AddError) → r ≡ addition (point_in t.items p.number) (ltb (length t.items) t.size) → ((k : ℕ) → point_in u.items k ≡ cond (is_ok r && is_eq (nat_cmp p.number k)) (Some p) (point_in t.items k)) → length u.items ≡ cond (is_ok r) (length t.items + 1) (length t.items) → Added p r (points_of t) (points_of u)
   added r told keyed count = record {
-    value = told ∙ room_for (point_in t.items p.number) (ltb (length t.items) t.room);
-    accepted = ap is_ok told ∙ accepted_for (point_in t.items p.number) (ltb (length t.items) t.room);
+    value = told ∙ room_for (point_in t.items p.number) (ltb (length t.items) t.size);
+    accepted = ap is_ok told ∙ accepted_for (point_in t.items p.number) (ltb (length t.items) t.size);
     after = by_number (is_ok r) keyed;
     shrinks = λ k h. let put = ap is_some (by_number (is_ok r) keyed k) in let less = some_put (is_ok r) p (point_in t.items) k in grind (arith, nat_tests);
     refused = λ no k. let put = ap is_some (by_number (is_ok r) keyed k) in grind (arith, nat_tests);

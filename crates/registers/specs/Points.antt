@@ -17,4 +17,4 @@ place_in xs n k = not (is_some (point_in xs k)) && nat_lt (length xs) n
 
 -- what records of points mean as a register
 abbrev pub points_of : Records Point → Registered
-points_of t = record { look = point_in t.items; place = place_in t.items t.room }
+points_of t = record { look = point_in t.items; place = place_in t.items t.size }

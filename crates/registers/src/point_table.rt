@@ -14,7 +14,7 @@ pub struct PointTable<'a> {
 impl<'a> PointTable<'a> {
     // A register with no point, and with a place for as many as the slice is long.
     pub fn new(items: &'a mut [Point]) -> Self
-        ensures { result.table ≡ record { items = []; room = length items.old } }
+        ensures { result.table ≡ record { items = []; size = length items.old } }
     {
         PointTable {
             table: OrderedTable::new(items),
@@ -40,14 +40,14 @@ impl<'a> Register for PointTable<'a> {
     // As any register; and it has room for as many as before.
     fn add(&mut self, point: Point) -> Result<(), AddError>
         ensures added { Added point result (points_of self.old.table) (points_of self.new.table) }
-        ensures room { self.new.table.room ≡ self.old.table.room }
+        ensures size { self.new.table.size ≡ self.old.table.size }
     {
         self.table.add(point)
     }
 
     fn replace(&mut self, point: Point) -> Result<(), Absent>
         ensures replaced { Replaced point result (points_of self.old.table) (points_of self.new.table) }
-        ensures room { self.new.table.room ≡ self.old.table.room }
+        ensures size { self.new.table.size ≡ self.old.table.size }
     {
         self.table.replace(point)
     }

@@ -25,7 +25,7 @@ impl<'a> Model for Roll<'a> {
 
     ghost Value = { Records MeterPoint };
 
-    ghost view = { λ r. record { items = take r.count r.items.now; room = length r.items.now } };
+    ghost view = { λ r. record { items = take r.count r.items.now; size = length r.items.now } };
 
     ghost invariant = { λ r. (r.count ≤ length r.items.now) × Apart (take r.count r.items.now) };
 }
@@ -33,7 +33,7 @@ impl<'a> Model for Roll<'a> {
 impl<'a> Roll<'a> {
     // A register with no point, and with a place for as many as the slice is long.
     pub fn new(items: &'a mut [Point]) -> Self
-        ensures { result ≡ record { items = []; room = length items.old } }
+        ensures { result ≡ record { items = []; size = length items.old } }
     {
         Roll { items, count: 0 }
     }
@@ -52,7 +52,7 @@ impl<'a> Roll<'a> {
     {
         let records = self.records();
         let mut at = None;
-        // By index: a roll is read record by record, by rule.
+        // By index, and no iterator: by rule, a roll's readings are `for` loops over the indices of its records.
         for i in 0..records.len() {
             if records[i].number == number {
                 at = Some(i);
@@ -81,7 +81,7 @@ impl<'a> Register for Roll<'a> {
     // As any register; and it has room for as many as before.
     fn add(&mut self, point: Point) -> Result<(), AddError>
         ensures added { Added point result (points_of self.old) (points_of self.new) }
-        ensures room { self.new.room ≡ self.old.room }
+        ensures size { self.new.size ≡ self.old.size }
     {
         match self.locate(point.number) {
             Some(_) => Err(AddError::AlreadyThere),
@@ -96,7 +96,7 @@ impl<'a> Register for Roll<'a> {
 
     fn replace(&mut self, point: Point) -> Result<(), Absent>
         ensures replaced { Replaced point result (points_of self.old) (points_of self.new) }
-        ensures room { self.new.room ≡ self.old.room }
+        ensures size { self.new.size ≡ self.old.size }
     {
         let at = self.locate(point.number).ok_or(Absent)?;
         self.items[at] = point;
@@ -109,7 +109,7 @@ fn lowest_of(records: &[Point], number: u64) -> Option<Point>
     ensures { LowestFrom (point_in records.now) number result }
 {
     let mut lowest: Option<Point> = None;
-    // By index, as above.
+    // By index, and no iterator, as every reading of a roll.
     for i in 0..records.len() {
         lowest = lower_of(number, records[i], lowest);
     }

@@ -6,11 +6,11 @@ use Rattle.tables.specs.Keys.{find}
 -- the records in the order of their keys, and how many there is room for in all
 pub record Records (T : Type 0) : Type 0 where
   pub items : List T
-  pub room : ℕ
+  pub size : ℕ
 
 -- room for one more record
 abbrev pub has_room : {T : Type 0} → Records T → Bool
-has_room t = nat_lt (length t.items) t.room
+has_room t = nat_lt (length t.items) t.size
 
 -- a place for the key k: it is absent, and there is room for one more
 abbrev pub placed : {T K : Type 0} → (T → K) → (K → K → Ordering) → Records T → K → Bool

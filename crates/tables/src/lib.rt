@@ -43,7 +43,7 @@ impl<'a, T: Keyed + Copy> Model for OrderedTable<'a, T> {
 
     ghost Value = { Records T };
 
-    ghost view = { λ t. record { items = take t.count t.items.now; room = length t.items.now } };
+    ghost view = { λ t. record { items = take t.count t.items.now; size = length t.items.now } };
 
     ghost invariant = { λ t. (t.count ≤ length t.items.now) × (in_order T.own T.Key.cmp (take t.count t.items.now) ≡ true) };
 }
@@ -51,7 +51,7 @@ impl<'a, T: Keyed + Copy> Model for OrderedTable<'a, T> {
 impl<'a, T: Keyed + Copy> OrderedTable<'a, T> {
     // An empty table over all of the slice.
     pub fn new(items: &'a mut [T]) -> Self
-        ensures { result ≡ record { items = []; room = length items.old } }
+        ensures { result ≡ record { items = []; size = length items.old } }
     {
         OrderedTable { items, count: 0 }
     }

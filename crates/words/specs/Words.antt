@@ -5,7 +5,7 @@ use Rattle.std.specs.List.{slice_split}
 abbrev pub words : List ℕ → List (List ℕ)
 words line = slice_split (λ b. b == 32) line
 
--- the words that a reader has still to give: those from its cursor on, and none where it has no cursor
+-- the words of a line from a cursor on, and none where there is no cursor
 abbrev pub left : List ℕ → Option ℕ → List (List ℕ)
 left line None = []
 left line (Some at) = words (drop at line)

@@ -69,7 +69,7 @@ impl<'a> Reader<'a> {
         Some((Word { place, text }, &rest[end + 1..]))
     }
 
-    // How many words are left: one more than spaces.
+    // How many words are left: from the cursor on, one more than spaces.
     #[tactic(auto, using(crate::proofs::Splits::counted))]
     fn count_left(&self) -> usize
         ensures { result ≡ length (unread self.now) }

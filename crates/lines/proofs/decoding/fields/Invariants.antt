@@ -1,6 +1,6 @@
-use Rattle.words.specs.Words.{left}
+use Rattle.words.specs.Readers.{unread}
 use Rattle.lines.proofs.Fields.{Kept}
 use Rattle.lines.proofs.decoding.fields.Given as goal
 
 abbrev pub invariant-loop-i : goal.invariant-loop-i
-invariant-loop-i g l = Kept g.row.N l.i (left l.fn.reader.line.now l.fn.reader.at) (left l.reader.line.now l.reader.at) l.slot-items
+invariant-loop-i g l = Kept g.row.N l.i (unread l.fn.reader) (unread l.reader) l.slot-items
