@@ -1,5 +1,6 @@
 -- The numbers that stand for a party, a role that a party can be listed in, and a yes or no.
 use Rattle.std.specs.Prelude.{◌≡◌, ℕ, Bool, true, false, ◌&&◌, ◌||◌, ◌==◌, nat_le}
+use Rattle.market.specs.Limits.{is_party, is_yes_no}
 use Rattle.market.specs.Numbers.{role_number}
 use Rattle.market.specs.declared.received.NewParty.{NewParty}
 use Rattle.market.specs.declared.received.NewLink.{NewLink}
@@ -8,15 +9,9 @@ use Rattle.market.specs.declared.refusals.Refusal.TheVariants.{OutsideLimits}
 use Rattle.directory.specs.declared.entries.PartyEntry.{PartyEntry}
 use Rattle.directory.specs.declared.entries.LinkEntry.{LinkEntry}
 
-abbrev pub is_party : ℕ → Bool
-is_party n = nat_le 1 n && nat_le n 65535
-
 -- gainer, gaining shipper, metering equipment manager, data collector, data aggregator, meter asset provider
 abbrev pub is_listable : ℕ → Bool
 is_listable r = r == 1 || (r == 3 || (r == 5 || (r == 6 || (r == 7 || r == 8))))
-
-abbrev pub is_yes_no : ℕ → Bool
-is_yes_no n = nat_le n 1
 
 abbrev pub party_within : NewParty → Bool
 party_within new = is_party new.number && (is_listable new.role && (is_yes_no new.qualified && is_yes_no new.sanctioned))

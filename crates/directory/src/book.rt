@@ -1,7 +1,8 @@
 // The directory over two slices that the caller lends: one for parties in roles, one for links.
 ghost use Rattle.std.specs.Prelude.{◌≡◌, false, [], length, is_ok};
 ghost use Rattle.directory.specs.Additions.{party_answer, link_answer, PartyAdded, LinkAdded};
-ghost use Rattle.directory.specs.Entries.{parties_of};
+ghost use Rattle.directory.specs.Entries.{entry_of, parties_of};
+ghost use Rattle.market.specs.Numbers.{role_number};
 
 use crate::entries::{LinkEntry, PartyEntry};
 use market::{Directory, NewLink, NewParty, Refusal, Role};
@@ -23,6 +24,12 @@ impl<'a, 'b> PartyBook<'a, 'b> {
             parties: OrderedTable::new(parties),
             links: OrderedTable::new(links),
         }
+    }
+
+    fn entry(&self, party: u16, role: Role) -> Option<PartyEntry>
+        ensures { result ≡ entry_of self.now.parties.items party (role_number role) }
+    {
+        self.parties.read((party, u8::from(role)))
     }
 
     // Lists a party in a role.
@@ -56,14 +63,11 @@ impl<'a, 'b> Directory for PartyBook<'a, 'b> {
     ghost parties = { λ s. parties_of s.parties.items s.links.items };
 
     fn is_qualified(&self, party: u16, role: Role) -> bool {
-        self.parties
-            .read((party, u8::from(role)))
-            .is_some_and(|entry| entry.qualified)
+        self.entry(party, role).is_some_and(|entry| entry.qualified)
     }
 
     fn is_sanctioned(&self, party: u16, role: Role) -> bool {
-        self.parties
-            .read((party, u8::from(role)))
+        self.entry(party, role)
             .is_some_and(|entry| entry.sanctioned)
     }
 

@@ -1,9 +1,11 @@
 // From numbers as received to an entry; refused where one of them is outside its limits.
-ghost use Rattle.std.specs.Prelude.{◌≡◌, true, MatchResult, ◌==◌};
+ghost use Rattle.std.specs.Prelude.{◌≡◌, true, MatchResult};
 ghost use Rattle.market.specs.Numbers.{role_number};
-ghost use Rattle.directory.specs.Limits.{is_party, is_listable, is_yes_no, party_within, link_within, PartyRead, LinkRead, Outside};
+ghost use Rattle.market.specs.Limits.{is_party};
+ghost use Rattle.directory.specs.Limits.{is_listable, party_within, link_within, PartyRead, LinkRead, Outside};
 
 use crate::entries::{LinkEntry, PartyEntry};
+use market::limits::{party, yes_no};
 use market::{NewLink, NewParty, Refusal, Role};
 
 // The entry that the numbers stand for.
@@ -40,10 +42,7 @@ impl TryFrom<NewLink> for LinkEntry {
 fn party_number(number: u64) -> Result<u16, Refusal>
     ensures { MatchResult result (λ n. (is_party number ≡ true) × (n ≡ number)) (Outside (is_party number)) }
 {
-    match u16::try_from(number) {
-        Ok(number) if number >= 1 => Ok(number),
-        _ => Err(Refusal::OutsideLimits),
-    }
+    party(number)?.ok_or(Refusal::OutsideLimits)
 }
 
 // The roles that a party can be listed in.
@@ -57,16 +56,6 @@ fn listable_role(number: u64) -> Result<Role, Refusal>
         | Role::Dc
         | Role::Da
         | Role::Map) => Ok(role),
-        _ => Err(Refusal::OutsideLimits),
-    }
-}
-
-fn yes_no(number: u64) -> Result<bool, Refusal>
-    ensures { MatchResult result (λ b. (is_yes_no number ≡ true) × (b ≡ (number == 1))) (Outside (is_yes_no number)) }
-{
-    match number {
-        0 => Ok(false),
-        1 => Ok(true),
         _ => Err(Refusal::OutsideLimits),
     }
 }

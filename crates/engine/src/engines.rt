@@ -18,6 +18,8 @@ use market::{
 };
 use rules::{Asked, Audience, Mailing, Owed, Step, limits, rows};
 
+// It has the register and the clock. Outbox and directory are handed to each call that wants them, which may be
+// others every time, so a promise speaks of the engine beside an outbox.
 #[derive(Drop)]
 pub struct Engine<R> {
     register: R,

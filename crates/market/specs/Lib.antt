@@ -1,4 +1,5 @@
 pub mod Numbers
+pub mod Limits
 pub mod Refusals
 pub mod Stores
 pub mod Looks

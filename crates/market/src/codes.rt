@@ -5,12 +5,9 @@ ghost use Rattle.market.specs.declared.refusals.Refusal.TheVariants as row;
 ghost use Rattle.market.specs.Blanks.{blank};
 ghost use Rattle.market.specs.Codes.{bytes_of, read_of, Valid};
 
-use crate::limits::{LAST_MOMENT, LAST_POINT};
+use crate::limits::{LAST_MOMENT, is_point};
 use crate::notices::{Notice, NoticeKind, Role};
 use crate::refusals::Refusal;
-
-// The roles with higher numbers are central services.
-const LAST_PARTY_ROLE: u8 = 8;
 
 impl Notice {
     // What stands in a place that no notice has taken.
@@ -67,7 +64,8 @@ impl<'a> TryFrom<&'a [u8]> for Notice {
 }
 
 impl Notice {
-    // What sixteen bytes are read as, whatever they are: a kind or role that does not exist as the first one.
+    // What sixteen bytes are read as, whatever they are: a kind or role that does not exist as the first one. No
+    // `From`: bytes that are no notice's are read, too.
     pub fn read(code: [u8; 16]) -> Notice
         ensures { result ≡ read_of code }
     {
@@ -85,9 +83,8 @@ impl Notice {
     pub fn is_valid(self) -> bool
         ensures { Decides result (Valid self) }
     {
-        self.point >= 1
-            && self.point <= LAST_POINT
+        is_point(self.point)
             && self.moment <= LAST_MOMENT
-            && (self.party == 0) == (u8::from(self.role) > LAST_PARTY_ROLE)
+            && (self.party == 0) == self.role.is_central()
     }
 }

@@ -1,5 +1,5 @@
 // A notice to a party of the market.
-ghost use Rattle.std.specs.Prelude.{◌≡◌};
+ghost use Rattle.std.specs.Prelude.{◌≡◌, nat_lt};
 ghost use Rattle.std.specs.Option.{ok_or};
 ghost use Rattle.market.specs.Numbers.{role_number, notice_kind_number, role_of, notice_kind_of, unknown};
 
@@ -40,6 +40,16 @@ impl Role {
         Role::Ecoes,
         Role::ElectricityAgent,
     ];
+
+    // Whether it is a central service's.
+    pub fn is_central(self) -> bool
+        ensures { result ≡ nat_lt 8 (role_number self) }
+    {
+        matches!(
+            self,
+            Role::Dcc | Role::Des | Role::GasAgent | Role::Ecoes | Role::ElectricityAgent
+        )
+    }
 }
 
 // The number of the role.

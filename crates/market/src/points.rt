@@ -20,7 +20,8 @@ impl From<Fuel> for u8 {
     }
 }
 
-// The fuel with this number.
+// The fuel with this number. By cases, here and at the other enums: one text for all would want a trait for
+// their numbers beside `From`.
 impl TryFrom<u64> for Fuel {
     type Error = UnknownNumber;
 
@@ -123,7 +124,8 @@ pub struct Point {
     pub fuel: Fuel,
     pub domestic: bool,
     pub status: Status,
-    // The registered supplier, its shipper, and the day since when.
+    // The registered supplier, its shipper, and the day since when. Three options and no value for all three: an
+    // image of a register may hold one without the others.
     pub supplier: Option<u16>,
     pub shipper: Option<u16>,
     pub since: Option<u32>,

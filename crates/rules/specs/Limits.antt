@@ -5,14 +5,9 @@ use Rattle.market.specs.declared.points.Point.{Point}
 use Rattle.market.specs.declared.points.Status.{Status}
 use Rattle.market.specs.declared.refusals.Refusal.{Refusal}
 use Rattle.market.specs.declared.refusals.Refusal.TheVariants.{OutsideLimits}
+use Rattle.market.specs.Limits.{is_point, is_party, party_or_none}
 use Rattle.market.specs.Numbers.{fuel_of, status_of}
 use Rattle.rules.specs.declared.limits.Asked.{Asked}
-
-abbrev pub is_point : ℕ → Bool
-is_point n = nat_le 1 n && nat_le n 9999999999999
-
-abbrev pub is_party : ℕ → Bool
-is_party n = nat_le 1 n && nat_le n 65535
 
 -- a start or leaving day
 abbrev pub is_day : ℕ → Bool
@@ -47,14 +42,6 @@ created_by n d (Some f) (Some s) = Some (created n f d s)
 -- the point that the numbers of a creation stand for; a status from 1 to 3
 abbrev pub new_point : ℕ → ℕ → ℕ → ℕ → Option Point
 new_point n f d s = cond (is_point n && nat_le d 1 && nat_le s 3) (created_by n (d == 1) (fuel_of f) (status_of s)) None
-
--- 0 is nobody
-abbrev pub party_or_none : ℕ → Option ℕ
-party_or_none n = cond (n == 0) None (Some n)
-
--- a party's number, or 0
-abbrev pub party_of : ℕ → Option (Option ℕ)
-party_of n = cond (nat_le n 65535) (Some (party_or_none n)) None
 
 -- a number from the least to the most
 abbrev pub between : ℕ → ℕ → ℕ → Option ℕ

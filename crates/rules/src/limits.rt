@@ -1,9 +1,10 @@
 // The first row: numbers as received become values within their limits, or the call is refused.
 ghost use Rattle.std.specs.Prelude.{◌≡◌};
-ghost use Rattle.rules.specs.Limits.{is_point, new_point, asked_of, or_outside, moment_of, between, party_of};
+ghost use Rattle.rules.specs.Limits.{new_point, asked_of, or_outside, moment_of, between};
 ghost use Rattle.rules.specs.Changes.{initial_request};
 
 pub use market::limits::{LAST_DAY, LAST_MOMENT, LAST_POINT};
+use market::limits::{is_point, party, yes_no};
 use market::{
     Fuel, NewPoint, NewRequest, Point, Refusal, Request, RequestKind, RequestState, Status,
 };
@@ -12,10 +13,11 @@ use market::{
 pub fn new_point(new: NewPoint) -> Result<Point, Refusal>
     ensures { result ≡ or_outside (new_point new.number new.fuel new.domestic new.status) }
 {
-    if !is_point(new.number) || new.domestic > 1 {
+    if !is_point(new.number) {
         return Err(Refusal::OutsideLimits);
     }
     let fuel = Fuel::try_from(new.fuel)?;
+    let domestic = yes_no(new.domestic)?;
     let status = Status::try_from(new.status)?;
     if status == Status::Terminated {
         return Err(Refusal::OutsideLimits);
@@ -23,7 +25,7 @@ pub fn new_point(new: NewPoint) -> Result<Point, Refusal>
     Ok(Point {
         number: new.number,
         fuel,
-        domestic: new.domestic == 1,
+        domestic,
         status,
         ..Point::BLANK
     })
@@ -69,23 +71,6 @@ impl Asked {
             start: self.start,
             window: None,
         }
-    }
-}
-
-fn is_point(number: u64) -> bool
-    ensures { result ≡ is_point number }
-{
-    (1..=LAST_POINT).contains(&number)
-}
-
-// The party with this number, 0 for none. No `TryFrom`: both types are std's.
-fn party(number: u64) -> Result<Option<u16>, Refusal>
-    ensures { result ≡ or_outside (party_of number) }
-{
-    match u16::try_from(number) {
-        Ok(0) => Ok(None),
-        Ok(party) => Ok(Some(party)),
-        Err(_) => Err(Refusal::OutsideLimits),
     }
 }
 

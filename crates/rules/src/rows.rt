@@ -6,8 +6,10 @@ use crate::limits::Asked;
 use crate::steps::DAY;
 use market::{Directory, Fuel, Point, Refusal, Role, Status};
 
+// A rule of its own, not that of securing.
 const FIVE_O_CLOCK: u64 = 1_020;
 
+// A rule of its own, not that of how far a working day is looked for.
 const FURTHEST: u64 = 28;
 
 // Whether a request that is received at `clock` may not start on the day.

@@ -138,7 +138,7 @@ impl<'a, T: Keyed + Copy> OrderedTable<'a, T> {
     }
 }
 
-// Puts x at `at` among the first `count`, and what stood from there on one place further.
+// Puts x at `at` among the first `count`, which are in use, and what stood from there on one place further.
 #[tactic(auto, using(crate::proofs::Shifts::inserted))]
 fn insert_at<T: Copy>(items: &mut [T], count: usize, at: usize, x: T)
     requires room { count < length items.old }

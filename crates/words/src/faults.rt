@@ -25,6 +25,7 @@ pub enum FeedFault {
     Line(LineFault),
 }
 
+// By hand, here and below, so that a promise can name the fault that `?` makes.
 impl From<FieldFault> for LineFault {
     ghost from_gives = { λ e r. r ≡ Field e };
 
