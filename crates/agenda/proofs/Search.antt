@@ -1,6 +1,7 @@
 -- One point more in the search for the earliest step.
 use Rattle.std.proofs.Common.{◌≡◌, ℕ, ◌+◌, ◌<◌, ◌≤◌, ltb, leb, ◌⊎◌, IfSome, Some, None, Option, sym, refl, ap, ◌∙◌, subst, inl, inr, ⊎_elim, arith}
 use Rattle.std.specs.Option.{option_map}
+use Rattle.std.proofs.lemmas.Option.{IfSome_then}
 use Rattle.std.proofs.lemmas.Bool.{cases_lt, cases_order, cond_both, leb-true, leb-false, ltb-true, ltb-false}
 use Rattle.market.specs.declared.points.Point.{Point}
 use Rattle.market.specs.Looks.{Lowest}
@@ -22,11 +23,6 @@ same_some x y h = cc
 
 none_some : {X : Type 0} (x : X) → None ≡ Some x → ⊥
 none_some x h = let z : ◌≡◌ {A = ℕ} 0 1 = cc in omega arith
-
--- what holds of each step holds of a weaker one
-weaker : (o : Option Step) (P Q : Step → Type 0) → ((t : Step) → P t → Q t) → IfSome o P → IfSome o Q
-weaker None P Q f h = h
-weaker (Some t) P Q f h = f t h
 
 module _ (look : ℕ → Option Point) (upto n : ℕ) (p : Point) (low : Lowest look n p) where
   -- a point up to p was seen before, or is p
@@ -54,7 +50,7 @@ module _ (look : ℕ → Option Point) (upto n : ℕ) (p : Point) (low : Lowest 
         below = omega arith;
         own = ap step_of own ∙ e;
         due = due;
-        first = upto_p (NotBefore t) (Some t) e (inr (refl, omega arith)) (λ k q l f. weaker (step_of q) _ _ (λ u h. inl h) (later k q l f));
+        first = upto_p (NotBefore t) (Some t) e (inr (refl, omega arith)) (λ k q l f. IfSome_then (step_of q) (later k q l f) (λ u h. inl h));
       }
 
   pub earliest_more : (o best : Option Step) → step_of p ≡ o → Earliest look upto n best → Earliest look upto (p.number + 1) (sooner upto best o)
@@ -68,7 +64,7 @@ module _ (look : ℕ → Option Point) (upto n : ℕ) (p : Point) (low : Lowest 
   }
   earliest_more (Some t) None e h =
       cond_both (leb t.moment upto) (Some t) None (Earliest look upto (p.number + 1))
-      (λ b. let due = leb-true t.moment upto b in first_here t e due (λ k q l f. weaker (step_of q) (λ u. upto < u.moment) (λ u. t.moment < u.moment) (λ u m. omega arith) (h k q l f)))
+      (λ b. let due = leb-true t.moment upto b in first_here t e due (λ k q l f. IfSome_then (step_of q) (h k q l f) (λ u m. omega arith)))
       (λ b. upto_p (λ k u. upto < u.moment) (Some t) e (leb-false t.moment upto b) h)
   earliest_more (Some t) (Some s) e h =
       let due = h.due in
@@ -76,7 +72,7 @@ module _ (look : ℕ → Option Point) (upto n : ℕ) (p : Point) (low : Lowest 
       let from = low.from in
       cond_both (ltb t.moment s.moment) (Some t) (Some s) (Earliest look upto (p.number + 1))
       (λ b. let less = ltb-true t.moment s.moment b in
-      first_here t e (omega arith) (λ k q l f. weaker (step_of q) (NotBefore s k) (λ u. t.moment < u.moment) (λ u m. ⊎_elim (λ lt. omega arith) (λ eq. let is = eq.0 in omega arith) m) (h.first k q l f)))
+      first_here t e (omega arith) (λ k q l f. IfSome_then (step_of q) (h.first k q l f) (λ u m. ⊎_elim (λ lt. omega arith) (λ eq. let is = eq.0 in omega arith) m)))
       (λ b. let more = ltb-false t.moment s.moment b in
       record {
         there = h.there;
