@@ -1,8 +1,9 @@
 -- A line's first word ends at its first space.
-use Rattle.std.proofs.Common.{◌≡◌, ℕ, ◌+◌, ◌-◌, ◌==◌, List, [], ◌∷◌, length, take, drop, filter, position, Option, Some, None, sym, ap, ◌∙◌, arith, length-drop, take_all, drop-drop}
+use Rattle.std.proofs.Common.{◌≡◌, ℕ, ◌+◌, ◌-◌, ◌==◌, List, [], ◌∷◌, length, take, drop, filter, position, Option, Some, None, sym, ap, ◌∙◌, arith, drop-drop}
 use Rattle.std.proofs.lemmas.Option.{cond_some}
 use Rattle.std.proofs.lemmas.Bool.{ltb-true}
 use Rattle.std.proofs.lemmas.Bool.Decides.{nat_tests}
+use Rattle.std.proofs.lemmas.List.{take_rest}
 use Rattle.std.proofs.lemmas.List.Splits.{length-slice_split, slice_split_none, slice_split_first}
 use Rattle.std.proofs.lemmas.List.Sums.{fails_before_first, length-filter}
 use Rattle.words.specs.Words.{words, left}
@@ -26,14 +27,11 @@ rest line place = take (length line - place) (drop place line)
 
 -- where a reader at `at` stands at a word
 module _ (line : List ℕ) (at : Option ℕ) (place : ℕ) (is : at ≡ Some place) where
-  rest_is : rest line place ≡ drop place line
-  rest_is = take_all (length line - place) (drop place line) (omega (arith, length-drop place line))
-
   here : left line at ≡ words (rest line place)
-  here = ap (left line) is ∙ ap words (sym rest_is)
+  here = ap (left line) is ∙ ap words (sym (take_rest line place))
 
   after : (end : ℕ) → drop (end + 1) (rest line place) ≡ drop (place + end + 1) line
-  after end = ap (drop (end + 1)) rest_is ∙ drop-drop (end + 1) place line ∙ ap (λ k. drop k line) (omega arith)
+  after end = ap (drop (end + 1)) (take_rest line place) ∙ drop-drop (end + 1) place line ∙ ap (λ k. drop k line) (omega arith)
 
   -- no space is left
   pub last : None ≡ position (λ b. b == 32) (rest line place) → left line at ≡ rest line place ∷ []
