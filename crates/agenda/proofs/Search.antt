@@ -1,7 +1,7 @@
 -- One point more in the search for the earliest step.
 use Rattle.std.proofs.Common.{◌≡◌, ℕ, ◌+◌, ◌<◌, ◌≤◌, ltb, leb, ◌⊎◌, IfSome, Some, None, Option, sym, refl, ap, ◌∙◌, subst, inl, inr, ⊎_elim, arith}
 use Rattle.std.specs.Option.{option_map}
-use Rattle.std.proofs.lemmas.Option.{IfSome_then}
+use Rattle.std.proofs.lemmas.Option.{IfSome_then, none-some, same_Some}
 use Rattle.std.proofs.lemmas.Bool.{cases_lt, cases_order, cond_both, leb-true, leb-false, ltb-true, ltb-false}
 use Rattle.market.specs.declared.points.Point.{Point}
 use Rattle.market.specs.Looks.{Lowest}
@@ -12,25 +12,19 @@ use Rattle.agenda.specs.Earliest.{NotBefore, First, Earliest, sooner}
 
 -- a step is of the point it was found at
 mapped_point : (p : Point) (o : Option (Turn × ℕ)) (t : Step) → option_map (λ x. record { point = p; turn = x.0; moment = x.1 }) o ≡ Some t → t.point ≡ p
-mapped_point p None t h = absurd (let z : ◌≡◌ {A = ℕ} 0 1 = cc in omega arith)
-mapped_point p (Some x) t h = let e : ◌≡◌ {A = Step} (record { point = p; turn = x.0; moment = x.1 }) t = cc in sym (ap (λ (s : Step). s.point) e)
+mapped_point p None t h = absurd (none-some t h)
+mapped_point p (Some x) t h = sym (ap (λ (s : Step). s.point) (same_Some _ t h))
 
 pub step_point : (p : Point) (t : Step) → step_of p ≡ Some t → t.point ≡ p
 step_point p t h = mapped_point p (next_step p.leaving p.request) t h
-
-same_some : {X : Type 0} (x y : X) → Some x ≡ Some y → x ≡ y
-same_some x y h = cc
-
-none_some : {X : Type 0} (x : X) → None ≡ Some x → ⊥
-none_some x h = let z : ◌≡◌ {A = ℕ} 0 1 = cc in omega arith
 
 module _ (look : ℕ → Option Point) (upto n : ℕ) (p : Point) (low : Lowest look n p) where
   -- a point up to p was seen before, or is p
   seen : (k : ℕ) (q : Point) → k < p.number + 1 → look k ≡ Some q → (k < n) ⊎ ((k ≡ p.number) × (q ≡ p))
   seen k q l e =
       ⊎_elim inl (λ ge. ⊎_elim
-      (λ is. inr (is, same_some q p (sym e ∙ ap look is ∙ low.there)))
-      (⊎_elim (λ lt. absurd (none_some q (sym (low.none k ge lt) ∙ e))) (λ gt. absurd (omega arith)))
+      (λ is. inr (is, same_Some q p (sym e ∙ ap look is ∙ low.there)))
+      (⊎_elim (λ lt. absurd (none-some q (sym (low.none k ge lt) ∙ e))) (λ gt. absurd (omega arith)))
       (cases_order k p.number)) (cases_lt k n)
 
   -- a property of every step below n and of p's step is one of every step up to p
