@@ -61,11 +61,8 @@ impl<'a, T: Keyed + Copy> OrderedTable<'a, T> {
         ensures value { result ≡ find T.own T.Key.cmp key self.now.items }
         ensures named { IfSome result (λ x. is_eq (T.Key.cmp (T.own x) key) ≡ true) }
     {
-        let records = self.records();
-        match self.locate(key) {
-            Ok(at) => Some(records[at]),
-            Err(_) => None,
-        }
+        let at = self.locate(key).ok()?;
+        Some(self.records()[at])
     }
 
     // The first record whose key is this one or above.
@@ -112,13 +109,9 @@ impl<'a, T: Keyed + Copy> OrderedTable<'a, T> {
         ensures by_key { (k : T.Key) → find T.own T.Key.cmp k self.new.items ≡ find_put T.own T.Key.cmp (is_ok result) x self.old.items k }
         ensures count { length self.new.items ≡ length self.old.items }
     {
-        match self.locate(x.key()) {
-            Ok(at) => {
-                write_at(self.items, self.count, at, x);
-                Ok(())
-            }
-            Err(_) => Err(Absent),
-        }
+        let at = self.locate(x.key()).map_err(|_| Absent)?;
+        write_at(self.items, self.count, at, x);
+        Ok(())
     }
 
     fn records(&self) -> &[T]
