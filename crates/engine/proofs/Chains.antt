@@ -1,5 +1,5 @@
 -- A chain of checks, one after the other, is the outcome that the table gives.
-use Rattle.std.proofs.Common.{◌≡◌, ◌^◌, IfSome, List, Some, None, Ok, Err, Option, Result, sym, refl, ap, ◌∙◌, subst}
+use Rattle.std.proofs.Common.{◌≡◌, IfSome, List, Some, None, Ok, Err, Option, Result, sym, refl, ap, ◌∙◌, subst}
 use Rattle.std.specs.Result.{result_ok, result_err}
 use Rattle.std.proofs.lemmas.Option.{none-some}
 use Rattle.market.specs.declared.points.Point.{Point}
