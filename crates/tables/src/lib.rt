@@ -131,7 +131,8 @@ impl<'a, T: Keyed + Copy> OrderedTable<'a, T> {
     }
 }
 
-// Puts x at `at` among the first `count`, which are in use, and what stood from there on one place further.
+// Puts x at `at` among the first `count`, and what stood from there on one place further. A count beside the
+// slice, since the slice is lent whole and only so much of it is in use.
 #[tactic(auto, using(crate::proofs::Shifts::inserted))]
 fn insert_at<T: Copy>(items: &mut [T], count: usize, at: usize, x: T)
     requires room { count < length items.old }
@@ -142,7 +143,7 @@ fn insert_at<T: Copy>(items: &mut [T], count: usize, at: usize, x: T)
     items[at] = x;
 }
 
-// Puts x at `at` among the first `count`.
+// Puts x at `at` among the first `count`, which are in use of a slice that is lent whole.
 #[tactic(auto, using(crate::proofs::Shifts::writes))]
 fn write_at<T: Copy>(items: &mut [T], count: usize, at: usize, x: T)
     requires room { count ≤ length items.old }

@@ -44,7 +44,7 @@ impl<'a> Reader<'a> {
         Reader { line, at: Some(0) }
     }
 
-    // The next word, and what of the line is left after it.
+    // The next word, and what of the line is left after it: a pair of them, by rule.
     #[tactic(auto, using(crate::proofs::Splits::last, crate::proofs::Splits::next))]
     pub fn step(&mut self) -> Option<(Word<'a>, &'a [u8])>
         ensures same { self.new.line.now ≡ self.old.line.now }
