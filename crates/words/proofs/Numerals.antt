@@ -10,7 +10,7 @@ use Rattle.std.proofs.lemmas.Str.{digit_value_digit}
 use Rattle.std.proofs.lemmas.Str.Parse.{IsNumeralModel, numerals_by_weight, digit_at, digits_value_short, digits_value-take-le}
 use Rattle.words.specs.Numbers.{is_numeral, numeral, weighed}
 
-own : IsNumeralModel (λ w. list_all is_ascii_digit w ≡ true) weighed
+pub own : IsNumeralModel (λ w. list_all is_ascii_digit w ≡ true) weighed
 own = numerals_by_weight _ (search rules) weighed (search rules)
 
 module _ (w : List ℕ) (is : is_numeral w ≡ true) where

@@ -1,5 +1,5 @@
 -- A line's first word ends at its first space.
-use Rattle.std.proofs.Common.{◌≡◌, ℕ, ◌+◌, ◌-◌, ◌==◌, List, [], ◌∷◌, length, take, drop, filter, position, Option, Some, None, sym, ap, ◌∙◌, arith, drop-drop}
+use Rattle.std.proofs.Common.{◌≡◌, ℕ, ◌+◌, ◌-◌, ◌==◌, List, [], ◌∷◌, length, take, drop, filter, position, Option, Some, None, sym, ap, ◌∙◌, arith, drop-drop, length-take}
 use Rattle.std.proofs.lemmas.Option.{cond_some}
 use Rattle.std.proofs.lemmas.Bool.{ltb-true}
 use Rattle.std.proofs.lemmas.Bool.Decides.{nat_tests}
@@ -42,5 +42,12 @@ module _ (line : List ℕ) (at : Option ℕ) (place : ℕ) (is : at ≡ Some pla
   next end found = here ∙ first_is_space _ end found ∙ ap (λ bytes. take end (rest line place) ∷ words bytes) (after end)
 
   -- a word more is left than spaces
-  pub counted : (n : ℕ) → n ≡ length (filter (λ b. b == 32) (rest line place)) → n + 1 ≡ length (left line at)
-  counted n told = ap (λ k. k + 1) told ∙ spaces (rest line place) ∙ ap length (sym here)
+  all : length (filter (λ b. b == 32) (rest line place)) + 1 ≡ length (left line at)
+  all = spaces (rest line place) ∙ ap length (sym here)
+
+  -- of the spaces no more are counted than so many, and of the words one more
+  pub counted : (n most : ℕ) → n ≡ length (take most (filter (λ b. b == 32) (rest line place))) → n + 1 ≡ length (take (most + 1) (left line at))
+  counted n most told =
+      let spaces_taken = length-take most (filter (λ b. b == 32) (rest line place)) in
+      let words_taken = length-take (most + 1) (left line at) in
+      grind (arith, nat_tests, told, all)

@@ -25,11 +25,12 @@ fn first_space(s: &[u8]) -> Option<usize>
     s.iter().position(|b| *b == b' ')
 }
 
-fn count_spaces(s: &[u8]) -> usize
-    ensures count { result ≡ length (filter (λ b. b == 32) s.now) }
+// How many spaces there are, or `most` where there are more; it looks no further than at so many.
+fn count_spaces(s: &[u8], most: usize) -> usize
+    ensures count { result ≡ length (take most (filter (λ b. b == 32) s.now)) }
     ensures within { result ≤ length s.now }
 {
-    s.iter().filter(|b| **b == b' ').count()
+    s.iter().filter(|b| **b == b' ').take(most).count()
 }
 
 impl<'a> Reader<'a> {
@@ -69,21 +70,22 @@ impl<'a> Reader<'a> {
         Some((Word { place, text }, &rest[end + 1..]))
     }
 
-    // How many words are left: from the cursor on, one more than spaces.
+    // How many words are left, or one more than `most` where there are more: one more than spaces from the
+    // cursor on.
     #[tactic(auto, using(crate::proofs::Splits::counted))]
-    fn count_left(&self) -> usize
-        ensures { result ≡ length (unread self.now) }
+    fn count_left(&self, most: usize) -> usize
+        ensures { result ≡ length (take (most + 1) (unread self.now)) }
     {
         match self.at {
-            Some(at) => count_spaces(&self.line[at..]) + 1,
+            Some(at) => count_spaces(&self.line[at..], most) + 1,
             None => 0,
         }
     }
 
-    // Whether exactly so many words are left.
+    // Whether exactly so many words are left. It looks no further than at one more.
     pub fn has_left(&self, count: usize) -> bool
         ensures { result ≡ (length (unread self.now) == count) }
     {
-        self.count_left() == count
+        self.count_left(count) == count
     }
 }
