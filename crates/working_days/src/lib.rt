@@ -13,12 +13,21 @@ pub const DAYS_AHEAD: u32 = 28;
 pub fn nth_working_day<C: Calendar>(calendar: &C, day: u32, n: u32) -> Option<u32>
     ensures { FoundNth (C.works calendar.now) day n result }
 {
-    let skipped = n.checked_sub(1)?;
+    if n == 0 {
+        return None;
+    }
     let last = day.saturating_add(DAYS_AHEAD);
-    // From `day` on, which is passed over, since the day after it may not fit. The cast loses nothing: there is
-    // no `From` between these types.
-    (day..=last)
-        .skip(1)
-        .filter(|later| calendar.works(*later))
-        .nth(skipped as usize)
+    let mut count = 0;
+    // A loop, since a chain of `filter` and `nth` takes twice the time; and by the day before the one looked
+    // at, since the day after `last` may not fit.
+    for before in day..last {
+        let next = before + 1;
+        if calendar.works(next) {
+            count += 1;
+            if count == n {
+                return Some(next);
+            }
+        }
+    }
+    None
 }
