@@ -2,6 +2,7 @@
 // the table's order, and then makes its change, whole.
 ghost use Rattle.std.specs.Prelude.{◌≡◌, ◌^◌, true, is_some, Option as Maybe};
 ghost use Rattle.market.specs.Stores.{Queue, Parties};
+ghost use Rattle.rules.specs.Owing.{listed};
 ghost use Rattle.rules.specs.Rows.{first_of, passing};
 ghost use Rattle.rules.specs.declared.steps.Step.{Step as Stepping};
 ghost use Rattle.agenda.specs.Earliest.{Earliest};
@@ -72,14 +73,15 @@ impl<R: Register> Engine<R> {
         answer: Answer,
     ) -> Result<Answer, Refusal>
         requires { is_some ((R.known self.old.register).look point.number) ≡ true }
-        ensures { Settled (changing point owed.items clock answer) (view_of R.known O.queue self.old outbox.old) result (view_of R.known O.queue self.new outbox.new) }
+        ensures { Settled (changing point (listed owed) clock answer) (view_of R.known O.queue self.old outbox.old) result (view_of R.known O.queue self.new outbox.new) }
     {
-        if outbox.free() < owed.len() {
+        let notices = owed.as_slice();
+        if outbox.free() < notices.len() {
             return Err(Refusal::OutboxFull);
         }
         // The point is not absent: it is there already.
         let _ = self.register.replace(point);
-        post(outbox, &owed);
+        post(outbox, notices);
         self.clock = clock;
         Ok(answer)
     }

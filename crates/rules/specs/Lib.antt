@@ -4,3 +4,4 @@ pub mod Notices
 pub mod Rows
 pub mod Changes
 pub mod Lists
+pub mod Owing

@@ -3,10 +3,12 @@
 #![tactic(auto)]
 
 pub mod limits;
+pub mod owed;
 pub mod rows;
 pub mod sending;
 pub mod steps;
 
 pub use limits::Asked;
-pub use sending::{Audience, Mailing, Owed};
+pub use owed::Owed;
+pub use sending::{Audience, Mailing};
 pub use steps::{Step, Turn};

@@ -9,6 +9,11 @@ use market::{
     Fuel, NewPoint, NewRequest, Point, Refusal, Request, RequestKind, RequestState, Status,
 };
 
+// The last number of a party, which has sixteen bits.
+pub const LAST_PARTY: u64 = 65_535;
+
+const _: () = prove!(LAST_PARTY == u16::MAX as u64);
+
 // The point as it is created, with nobody registered. No `TryFrom`: both types are of the crate below.
 pub fn new_point(new: NewPoint) -> Result<Point, Refusal>
     ensures { result ≡ or_outside (new_point new.number new.fuel new.domestic new.status) }

@@ -2,12 +2,10 @@
 ghost use Rattle.std.specs.Prelude.{◌≡◌, true};
 ghost use Rattle.rules.specs.Notices.{reaches, needs_supplier, party_in, notice_to, mailed};
 ghost use Rattle.rules.specs.Lists.{ListsStand};
+ghost use Rattle.rules.specs.Owing.{listed};
 
-use arrayvec::ArrayVec;
+use crate::owed::Owed;
 use market::{Fuel, Notice, NoticeKind, Point, Request, Role};
-
-// The notices that a change owes, at most one to a role.
-pub type Owed = ArrayVec<Notice, 13>;
 
 // Who hears of a change.
 #[derive(Clone, Copy, Debug, PartialEq, Eq)]
@@ -99,9 +97,9 @@ impl Mailing {
 
     // All that the mailing owes, roles rising.
     pub fn owed(self) -> Owed
-        ensures { result.items ≡ mailed self }
+        ensures { listed result ≡ mailed self }
     {
-        let mut owed = Owed::new();
+        let mut owed = Owed::none();
         for role in Role::ALL {
             if let Some(notice) = self.notice_to(role) {
                 owed.push(notice);

@@ -2,8 +2,10 @@
 ghost use Rattle.std.specs.Prelude.{◌≡◌, Some};
 ghost use Rattle.rules.specs.Steps.{request_step, step_of, turned, turn_name};
 ghost use Rattle.rules.specs.Changes.{owed_at};
+ghost use Rattle.rules.specs.Owing.{listed};
 
-use crate::sending::{Audience, Mailing, Owed};
+use crate::owed::Owed;
+use crate::sending::{Audience, Mailing};
 use market::{NoticeKind, Point, Request, RequestState};
 use std::fmt;
 
@@ -111,12 +113,12 @@ impl Step {
 
     // What the step owes, where the clock then stands at `clock`.
     pub fn owed(self, clock: u32) -> Owed
-        ensures { result.items ≡ owed_at self.turn self.point clock }
+        ensures { listed result ≡ owed_at self.turn self.point clock }
     {
         let (kind, audience) = match self.turn {
             Turn::Confirmed => (NoticeKind::Confirmed, Audience::Confirmation),
             Turn::Secured => (NoticeKind::Secured, Audience::Securing),
-            Turn::Completed | Turn::Left => return Owed::new(),
+            Turn::Completed | Turn::Left => return Owed::none(),
         };
         Mailing {
             kind,
