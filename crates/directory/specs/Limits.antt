@@ -1,5 +1,5 @@
 -- The numbers that stand for a party, a role that a party can be listed in, and a yes or no.
-use Rattle.std.specs.Prelude.{◌≡◌, ℕ, Bool, true, false, ◌&&◌, ◌||◌, ◌==◌, nat_le}
+use Rattle.std.specs.Prelude.{◌≡◌, ℕ, Bool, true, false, ◌&&◌, ◌||◌, ◌==◌}
 use Rattle.market.specs.Limits.{is_party, is_yes_no}
 use Rattle.market.specs.Numbers.{role_number}
 use Rattle.market.specs.declared.received.NewParty.{NewParty}

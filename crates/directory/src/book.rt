@@ -1,8 +1,10 @@
 // The directory over two slices that the caller lends: one for parties in roles, one for links.
-ghost use Rattle.std.specs.Prelude.{◌≡◌, false, [], length, is_ok};
+ghost use Rattle.std.specs.Prelude.{◌≡◌, true, false, [], length, is_ok};
 ghost use Rattle.directory.specs.Additions.{party_answer, link_answer, PartyAdded, LinkAdded};
-ghost use Rattle.directory.specs.Entries.{entry_of, parties_of};
+ghost use Rattle.directory.specs.Entries.{entry_of, link_key, linked_in, parties_of, party_key, qualified_in, sanctioned_in};
 ghost use Rattle.market.specs.Numbers.{role_number};
+ghost use Rattle.tables.specs.Orders.{pair_cmp};
+ghost use Rattle.tables.specs.Tables.{Sound};
 
 use crate::entries::{LinkEntry, PartyEntry};
 use market::{Directory, NewLink, NewParty, Refusal, Role};
@@ -27,7 +29,8 @@ impl<'a, 'b> PartyBook<'a, 'b> {
     }
 
     fn entry(&self, party: u16, role: Role) -> Option<PartyEntry>
-        ensures { result ≡ entry_of self.now.parties.items party (role_number role) }
+        ensures value { result ≡ entry_of self.now.parties.items party (role_number role) }
+        ensures sound { Sound party_key pair_cmp self.now.parties }
     {
         self.parties.read((party, u8::from(role)))
     }
@@ -39,6 +42,7 @@ impl<'a, 'b> PartyBook<'a, 'b> {
         ensures refused { is_ok result ≡ false → self.new ≡ self.old }
         ensures same { self.new.links ≡ self.old.links }
         ensures sizes { self.new.parties.size ≡ self.old.parties.size }
+        ensures sound { is_ok result ≡ true → Sound party_key pair_cmp self.new.parties }
     {
         let entry = PartyEntry::try_from(new)?;
         self.parties.add(entry)?;
@@ -52,6 +56,7 @@ impl<'a, 'b> PartyBook<'a, 'b> {
         ensures refused { is_ok result ≡ false → self.new ≡ self.old }
         ensures same { self.new.parties ≡ self.old.parties }
         ensures sizes { self.new.links.size ≡ self.old.links.size }
+        ensures sound { is_ok result ≡ true → Sound link_key pair_cmp self.new.links }
     {
         let link = LinkEntry::try_from(new)?;
         self.links.add(link)?;
@@ -62,16 +67,25 @@ impl<'a, 'b> PartyBook<'a, 'b> {
 impl<'a, 'b> Directory for PartyBook<'a, 'b> {
     ghost parties = { λ s. parties_of s.parties.items s.links.items };
 
-    fn is_qualified(&self, party: u16, role: Role) -> bool {
+    fn is_qualified(&self, party: u16, role: Role) -> bool
+        ensures value { result ≡ qualified_in self.now.parties.items party (role_number role) }
+        ensures sound { Sound party_key pair_cmp self.now.parties }
+    {
         self.entry(party, role).is_some_and(|entry| entry.qualified)
     }
 
-    fn is_sanctioned(&self, party: u16, role: Role) -> bool {
+    fn is_sanctioned(&self, party: u16, role: Role) -> bool
+        ensures value { result ≡ sanctioned_in self.now.parties.items party (role_number role) }
+        ensures sound { Sound party_key pair_cmp self.now.parties }
+    {
         self.entry(party, role)
             .is_some_and(|entry| entry.sanctioned)
     }
 
-    fn is_linked(&self, supplier: u16, shipper: u16) -> bool {
+    fn is_linked(&self, supplier: u16, shipper: u16) -> bool
+        ensures value { result ≡ linked_in self.now.links.items supplier shipper }
+        ensures sound { Sound link_key pair_cmp self.now.links }
+    {
         self.links.read((supplier, shipper)).is_some()
     }
 }

@@ -1,4 +1,6 @@
 // What is listed of a party and of a link, and in which order.
+ghost use Rattle.std.proofs.lemmas.Map.Lookups.{exact_pairs, exact_unsigned};
+ghost use Rattle.std.specs.Ordering.{nat_cmp};
 ghost use Rattle.directory.specs.Entries.{party_key, link_key};
 
 use market::Role;
@@ -44,6 +46,8 @@ impl Keyed for PartyEntry {
 
     ghost own = { party_key };
 
+    ghost exact = { exact_pairs nat_cmp nat_cmp exact_unsigned exact_unsigned };
+
     fn key(&self) -> (u16, u8) {
         (self.number, u8::from(self.role))
     }
@@ -54,6 +58,8 @@ impl Keyed for LinkEntry {
     type Key = (u16, u16);
 
     ghost own = { link_key };
+
+    ghost exact = { exact_pairs nat_cmp nat_cmp exact_unsigned exact_unsigned };
 
     fn key(&self) -> (u16, u16) {
         (self.supplier, self.shipper)

@@ -16,7 +16,7 @@ use Rattle.tables.specs.Points.{number_of}
 use Rattle.tables.specs.Tables.{Records}
 use Rattle.registers.specs.Points.{point_in, points_of}
 use Rattle.registers.proofs.Sought.{added, replaced}
-use Rattle.registers.specs.Arrivals.{apart, Apart, Stands, lower}
+use Rattle.registers.specs.Arrivals.{apart, Apart, Arrived, Stands, lower}
 
 -- ---- a point that comes last
 find_last : (k : ℕ) (xs : List Point) (p : Point) → point_in (xs ++ p ∷ []) k ≡ cond (is_some (point_in xs k)) (point_in xs k) (cond (eqb p.number k) (Some p) None)
@@ -90,6 +90,9 @@ module _ (xs : List Point) (a : Apart xs) (k : ℕ) where
   walk_done (Some i) w = stands i w.1
 
 -- ---- an addition and a replacement, where the first n points are held
+pub arrived : (xs : List Point) (n : ℕ) → (n ≤ length xs) × Apart (take n xs) → Arrived (record { items = take n xs; size = length xs })
+arrived xs n h = (omega (arith, h.0, length-take-le n xs h.0), h.1)
+
 pub there_already : (t : Records Point) (p : Point) (i : ℕ) → Stands t.items p.number i → Added p (Err AlreadyThere) (points_of t) (points_of t)
 there_already t p i h = record { value = rw (h.there p) refl; accepted = rw (h.there p) refl; after = λ k. refl; shrinks = λ k e. e; refused = λ no k. refl }
 

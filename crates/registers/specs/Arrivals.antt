@@ -1,9 +1,10 @@
 -- Points in the order of their arrival.
-use Rattle.std.specs.Prelude.{◌≡◌, ℕ, ◌<◌, Bool, true, cond, not, ◌&&◌, List, [], ◌∷◌, length, is_some, Some, None, Option, nat_le, nat_lt, slice_index_or, slice_set}
+use Rattle.std.specs.Prelude.{◌≡◌, ℕ, ◌<◌, ◌≤◌, Bool, true, cond, not, ◌&&◌, List, [], ◌∷◌, length, is_some, Some, None, Option, nat_le, nat_lt, slice_index_or, slice_set}
 use Rattle.std.specs.Ordering.{nat_cmp}
 use Rattle.market.specs.declared.points.Point.{Point}
 use Rattle.tables.specs.Keys.{swap}
 use Rattle.tables.specs.Points.{number_of}
+use Rattle.tables.specs.Tables.{Records}
 use Rattle.registers.specs.Points.{point_in}
 
 -- no two of the points have one number
@@ -13,6 +14,10 @@ apart (x ∷ xs) = not (is_some (point_in xs x.number)) && apart xs
 
 abbrev pub Apart : List Point → Type 0
 Apart xs = apart xs ≡ true
+
+-- no more points than there is room for, and no two of them have one number
+abbrev pub Arrived : Records Point → Type 0
+Arrived t = (length t.items ≤ t.size) × Apart t.items
 
 -- the point with the number k stands at i: what is found and changed there
 pub record Stands (xs : List Point) (k i : ℕ) : Type 0 where

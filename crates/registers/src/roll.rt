@@ -1,9 +1,9 @@
 // Points in the order of their arrival, in a slice that the caller lends.
-ghost use Rattle.std.specs.Prelude.{◌≡◌, [], length, None, MatchOption};
+ghost use Rattle.std.specs.Prelude.{◌≡◌, true, [], length, None, MatchOption};
 ghost use Rattle.market.specs.Looks.{LowestFrom};
 ghost use Rattle.market.specs.Stores.{Added, Replaced};
-ghost use Rattle.registers.specs.Arrivals.{Apart, Stands, lower};
-ghost use Rattle.registers.specs.Points.{point_in, points_of};
+ghost use Rattle.registers.specs.Arrivals.{Apart, Arrived, Stands, lower};
+ghost use Rattle.registers.specs.Points.{place_in, point_in, points_of};
 
 use market::{Absent, AddError, Point, Register};
 use std::marker::Model;
@@ -74,7 +74,12 @@ impl<'a> Register for Roll<'a> {
         lowest_of(self.records(), number)
     }
 
-    fn has_place(&self, number: u64) -> bool {
+    // As any register; and no two of its points have one number, no more of them than there is room for.
+    fn has_place(&self, number: u64) -> bool
+        ensures value { result ≡ place_in self.now.items self.now.size number }
+        ensures absent { result ≡ true → point_in self.now.items number ≡ None }
+        ensures sound { Arrived self.now }
+    {
         self.read(number).is_none() && self.count < self.items.len()
     }
 
@@ -82,6 +87,7 @@ impl<'a> Register for Roll<'a> {
     fn add(&mut self, point: Point) -> Result<(), AddError>
         ensures added { Added point result (points_of self.old) (points_of self.new) }
         ensures size { self.new.size ≡ self.old.size }
+        ensures sound { Arrived self.new }
     {
         match self.locate(point.number) {
             Some(_) => Err(AddError::AlreadyThere),
@@ -97,6 +103,7 @@ impl<'a> Register for Roll<'a> {
     fn replace(&mut self, point: Point) -> Result<(), Absent>
         ensures replaced { Replaced point result (points_of self.old) (points_of self.new) }
         ensures size { self.new.size ≡ self.old.size }
+        ensures sound { Arrived self.new }
     {
         let at = self.locate(point.number).ok_or(Absent)?;
         self.items[at] = point;

@@ -10,11 +10,12 @@ use Rattle.std.specs.Ordering.{is_eq, is_gt, is_lt}
 use Rattle.std.specs.declared.cmp.Ordering.{Ordering}
 use Rattle.std.specs.declared.cmp.Ordering.TheVariants.{Less, Equal, Greater}
 use Rattle.tables.specs.Keys.{find, in_order}
+use Rattle.tables.specs.Orders.{Exact}
 use Rattle.tables.specs.Places.{Found, Missing}
 use Rattle.tables.proofs.Listed.{find_none, find_at, seek_at, join_at, swap_at, find-join, find-swap, swap_none}
 use Rattle.tables.proofs.Ordered.{apart, neighbours, in_order-join, in_order-swap}
 
-module _ {X K : Type 0} (own : X → K) (cmp : K → K → Ordering) (total : IsTotalOrder cmp) (xs : List X) (h : in_order own cmp xs ≡ true) (k : K) where
+module _ {X K : Type 0} (own : X → K) (cmp : K → K → Ordering) (total : IsTotalOrder cmp) (exact : Exact cmp) (xs : List X) (h : in_order own cmp xs ≡ true) (k : K) where
   module _ (i : ℕ) (before : (j : ℕ) (d : X) → j < i → cmp (own (get_or xs j d)) k ≡ Less) where
     -- the record at i has the key
     found_at : i < length xs → ((d : X) → cmp (own (get_or xs i d)) k ≡ Equal) → X → Found own cmp xs k i
@@ -22,6 +23,7 @@ module _ {X K : Type 0} (own : X → K) (cmp : K → K → Ordering) (total : Is
         let is = find_at own cmp k xs i d l (ap is_eq (same d)) (λ j e m. ap is_eq (before j e m)) in
         record {
           within = l;
+          same = λ d. exact _ _ (same d);
           there = ap is_some is;
           named = is ∙ sym (slice_get-get_or xs i d l);
           first = seek_at own cmp k xs i (omega arith) (λ j e m. ap is_lt (before j e m)) (λ e m. ap is_lt (same e));

@@ -1,5 +1,5 @@
 -- Where a key stands among records in order, and what is found and changed there.
-use Rattle.std.specs.Prelude.{◌≡◌, ℕ, ◌<◌, ◌≤◌, true, false, List, length, Some, None, Option, IsSome, insert, slice_get, slice_set}
+use Rattle.std.specs.Prelude.{◌≡◌, ℕ, ◌<◌, ◌≤◌, true, false, List, length, Some, None, Option, IsSome, insert, slice_get, slice_index_or, slice_set}
 use Rattle.std.specs.Ordering.{is_gt}
 use Rattle.std.specs.declared.cmp.Ordering.{Ordering}
 use Rattle.std.specs.declared.cmp.Ordering.TheVariants.{Less}
@@ -13,6 +13,7 @@ IsFirstFrom {X} {K} own cmp xs k (Some x) = (is_gt (cmp k (own x)) ≡ false) ×
 -- the record with the key k stands at i
 pub record Found {X K : Type 0} (own : X → K) (cmp : K → K → Ordering) (xs : List X) (k : K) (i : ℕ) : Type 0 where
   pub within : i < length xs
+  pub same : (d : X) → own (slice_index_or xs i d) ≡ k
   pub there : IsSome (find own cmp k xs)
   pub named : find own cmp k xs ≡ slice_get xs i
   pub first : seek own cmp k xs ≡ slice_get xs i

@@ -5,11 +5,11 @@
 #![tactic(auto)]
 
 ghost use Rattle.std.specs.Prelude.{◌≡◌, ◌+◌, ◌<◌, ◌≤◌, true, [], length, take, insert, slice_set, is_ok, is_some, IfSome, MatchResult, if◌then◌else◌};
-ghost use Rattle.std.specs.Ordering.{is_eq};
 ghost use Rattle.market.specs.Stores.{addition};
 ghost use Rattle.tables.specs.Keys.{find, find_put, seek, join, swap, in_order};
+ghost use Rattle.tables.specs.Orders.{Exact};
 ghost use Rattle.tables.specs.Places.{IsFirstFrom, Found, Missing};
-ghost use Rattle.tables.specs.Tables.{has_room, placed};
+ghost use Rattle.tables.specs.Tables.{Sound, has_room, placed};
 
 use market::{Absent, AddError};
 use std::marker::Model;
@@ -25,6 +25,9 @@ pub trait Keyed {
 
     fn key(&self) -> Self::Key
         ensures { result ≡ own self.now };
+
+    // Keys that compare as equal are one key.
+    ghost exact: { Exact Self.Key.cmp };
 }
 
 // Records in the order of their keys, no two of one key. They stand first in the slice. No map and no Vec:
@@ -59,7 +62,8 @@ impl<'a, T: Keyed + Copy> OrderedTable<'a, T> {
     // The record with the key.
     pub fn read(&self, key: T::Key) -> Option<T>
         ensures value { result ≡ find T.own T.Key.cmp key self.now.items }
-        ensures named { IfSome result (λ x. is_eq (T.Key.cmp (T.own x) key) ≡ true) }
+        ensures named { IfSome result (λ x. T.own x ≡ key) }
+        ensures sound { Sound T.own T.Key.cmp self.now }
     {
         let at = self.locate(key).ok()?;
         Some(self.records()[at])
@@ -69,7 +73,7 @@ impl<'a, T: Keyed + Copy> OrderedTable<'a, T> {
     pub fn first_from(&self, key: T::Key) -> Option<T>
         ensures value { result ≡ seek T.own T.Key.cmp key self.now.items }
         ensures lowest { IsFirstFrom T.own T.Key.cmp self.now.items key result }
-        ensures in_order { in_order T.own T.Key.cmp self.now.items ≡ true }
+        ensures sound { Sound T.own T.Key.cmp self.now }
     {
         let records = self.records();
         match self.locate(key) {
@@ -79,7 +83,8 @@ impl<'a, T: Keyed + Copy> OrderedTable<'a, T> {
 
     // Whether the key is absent and there is room for one more record.
     pub fn has_place(&self, key: T::Key) -> bool
-        ensures { result ≡ placed T.own T.Key.cmp self.now key }
+        ensures value { result ≡ placed T.own T.Key.cmp self.now key }
+        ensures sound { Sound T.own T.Key.cmp self.now }
     {
         self.read(key).is_none() && self.count < self.items.len()
     }
@@ -90,6 +95,7 @@ impl<'a, T: Keyed + Copy> OrderedTable<'a, T> {
         ensures after { self.new ≡ record self.old { items = (if is_ok result then join T.own T.Key.cmp x self.old.items else self.old.items) } }
         ensures by_key { (k : T.Key) → find T.own T.Key.cmp k self.new.items ≡ find_put T.own T.Key.cmp (is_ok result) x self.old.items k }
         ensures count { length self.new.items ≡ (if is_ok result then length self.old.items + 1 else length self.old.items) }
+        ensures sound { Sound T.own T.Key.cmp self.new }
     {
         match self.locate(x.key()) {
             Ok(_) => Err(AddError::AlreadyThere),
@@ -108,6 +114,7 @@ impl<'a, T: Keyed + Copy> OrderedTable<'a, T> {
         ensures after { self.new ≡ record self.old { items = swap T.own T.Key.cmp x self.old.items } }
         ensures by_key { (k : T.Key) → find T.own T.Key.cmp k self.new.items ≡ find_put T.own T.Key.cmp (is_ok result) x self.old.items k }
         ensures count { length self.new.items ≡ length self.old.items }
+        ensures sound { Sound T.own T.Key.cmp self.new }
     {
         let at = self.locate(x.key()).map_err(|_| Absent)?;
         write_at(self.items, self.count, at, x);
@@ -116,7 +123,7 @@ impl<'a, T: Keyed + Copy> OrderedTable<'a, T> {
 
     fn records(&self) -> &[T]
         ensures all { result.now ≡ self.now.items }
-        ensures in_order { in_order T.own T.Key.cmp self.now.items ≡ true }
+        ensures sound { Sound T.own T.Key.cmp self.now }
     {
         let items = &*self.items;
         &items[..self.count]
@@ -126,6 +133,7 @@ impl<'a, T: Keyed + Copy> OrderedTable<'a, T> {
     fn locate(&self, key: T::Key) -> Result<usize, usize>
         ensures place { MatchResult result (Found T.own T.Key.cmp self.now.items key) (Missing T.own T.Key.cmp self.now.items key) }
         ensures lowest { IsFirstFrom T.own T.Key.cmp self.now.items key (seek T.own T.Key.cmp key self.now.items) }
+        ensures sound { Sound T.own T.Key.cmp self.now }
     {
         self.records().binary_search_by_key(&key, |item| item.key())
     }
