@@ -15,6 +15,10 @@ module _ {X : Type 0} (xs : List X) (f : ℕ) (start : f ≤ length xs) where
       let d = length-drop f xs in
       let t = length-take-le f xs start in omega arith
 
+  -- as many as there are said to be
+  pub length-ring : (c : ℕ) → c ≤ length xs → length (ring xs f c) ≡ c
+  length-ring c l = let r = length-rolled in length-take-le c (rolled xs f) (omega arith)
+
   -- where the next one goes
   rolled-set : (c : ℕ) (v : X) → c < length xs → rolled (set xs ((f + c) % length xs) v) f ≡ set (rolled xs f) c v
   rolled-set c v l =
@@ -72,3 +76,10 @@ module _ {X : Type 0} (xs : List X) where
   ring_take f c x p l s read =
       let k : c ≡ suc (c - 1) = omega arith in
       ap (λ n. take n (rolled xs f)) k ∙ rolled_next f (c - 1) x s read (omega arith) ∙ ap (λ y. x ∷ take (c - 1) y) (rolled_round f s)
+
+-- what an outbox's calls need
+pub ruleset counts = length-ring
+
+pub ruleset puts = (length-ring, ring_put)
+
+pub ruleset takes = (length-ring, ring_take)

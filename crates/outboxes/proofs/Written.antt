@@ -13,7 +13,7 @@ use borrow.Rule.Slice.PartMut.{put_mid}
 pub records_count : (bs : List ℕ) → length (records bs) ≡ length bs / 16
 records_count bs = length-map-range_with_len (record_at bs) 0 (length bs / 16)
 
-read_same : (cs bs : List ℕ) → ((i : ℕ) → i < 16 → get_or cs i 0 ≡ get_or bs i 0) → read_of cs ≡ read_of bs
+pub read_same : (cs bs : List ℕ) → ((i : ℕ) → i < 16 → get_or cs i 0 ≡ get_or bs i 0) → read_of cs ≡ read_of bs
 read_same cs bs h =
     let a0 = h 0 (omega arith) in let a1 = h 1 (omega arith) in let a2 = h 2 (omega arith) in let a3 = h 3 (omega arith) in
     let a4 = h 4 (omega arith) in let a5 = h 5 (omega arith) in let a6 = h 6 (omega arith) in let a7 = h 7 (omega arith) in
@@ -33,7 +33,7 @@ module _ (xs code : List ℕ) (o : ℕ) (long : length code ≡ 16) (fits : o + 
   abbrev written : List ℕ
   written = take o xs ++ (code ++ drop (o + 16) xs)
 
-  length-written : length written ≡ length xs
+  pub length-written : length written ≡ length xs
   length-written = search (rules, places)
 
   written_here : (i : ℕ) → i < 16 → get_or written (o + i) 0 ≡ get_or code i 0
@@ -47,7 +47,7 @@ module _ (xs code : List ℕ) (o : ℕ) (long : length code ≡ 16) (fits : o + 
 
 -- one record is written, and the others stay
 module _ (xs code : List ℕ) (k : ℕ) (long : length code ≡ 16) (less : k < length xs / 16) where
-  fits : 16 * k + 16 ≤ length xs
+  pub fits : 16 * k + 16 ≤ length xs
   fits = omega arith
 
   abbrev after : List ℕ
@@ -62,7 +62,7 @@ module _ (xs code : List ℕ) (k : ℕ) (long : length code ≡ 16) (less : k < 
       ∙ ⊎_elim (λ lt. written_below xs code (16 * k) long fits (16 * j + i) (omega arith)) (λ ge. written_above xs code (16 * k) long fits (16 * j + i) (omega arith)) (cases_lt j k)
       ∙ sym (get_or-drop (16 * j) xs i 0))
 
-  records-written : records after ≡ set (records xs) k (read_of code)
+  pub records-written : records after ≡ set (records xs) k (read_of code)
   records-written =
       let l = length-written xs code (16 * k) long fits in
       let n : ℕ = length xs / 16 in

@@ -4,7 +4,7 @@ ghost use Rattle.market.specs.declared.notices.Notice.{Notice as Noted};
 
 use market::Notice;
 
-pub trait Places {
+pub(crate) trait Places {
     ghost notices: { Self → List Noted };
 
     // How many there are.

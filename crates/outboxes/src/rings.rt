@@ -1,5 +1,6 @@
 // An outbox over places, used as a ring.
-ghost use Rattle.std.specs.Prelude.{◌≡◌, ◌+◌, ◌%◌, ◌/◌, ◌<◌, ◌≤◌, length};
+ghost use Rattle.std.specs.Prelude.{◌≡◌, ◌+◌, ◌-◌, ◌%◌, ◌/◌, ◌<◌, ◌≤◌, [], ◌∷◌, ◌++◌, length, is_ok, nat_lt, if◌then◌else◌};
+ghost use Rattle.market.specs.Waits.{oldest, others};
 ghost use Rattle.outboxes.specs.Rings.{empty};
 
 use crate::cells::Cells;
@@ -71,12 +72,25 @@ impl<'a> Ring<Cells<'a>> {
 impl<P: Places> Outbox for Ring<P> {
     ghost queue = { λ s. s };
 
-    fn free(&self) -> usize {
+    // As any outbox, here and below; and the free places are the size less the waiting notices.
+    #[tactic(auto, using(crate::proofs::Rolls::counts))]
+    fn free(&self) -> usize
+        ensures value { result ≡ self.now.room }
+        ensures empty { self.now.waiting ≡ [] → self.now.room ≡ self.now.size }
+        ensures exact { self.now.room + length self.now.waiting ≡ self.now.size }
+    {
         self.places.len() - self.count
     }
 
-    #[tactic(auto, using(crate::proofs::Rolls::ring_put))]
-    fn put(&mut self, notice: Notice) -> Result<(), OutboxFull> {
+    #[tactic(auto, using(crate::proofs::Rolls::puts))]
+    fn put(&mut self, notice: Notice) -> Result<(), OutboxFull>
+        ensures value { is_ok result ≡ nat_lt 0 self.old.room }
+        ensures after { self.new.waiting
+            ≡ (if is_ok result then self.old.waiting ++ notice ∷ [] else self.old.waiting) }
+        ensures left { self.new.room ≡ self.old.room - 1 }
+        ensures size { self.new.size ≡ self.old.size }
+        ensures exact { self.new.room + length self.new.waiting ≡ self.new.size }
+    {
         if self.count >= self.places.len() {
             return Err(OutboxFull);
         }
@@ -86,8 +100,15 @@ impl<P: Places> Outbox for Ring<P> {
         Ok(())
     }
 
-    #[tactic(auto, using(crate::proofs::Rolls::ring_take))]
-    fn take(&mut self) -> Option<Notice> {
+    #[tactic(auto, using(crate::proofs::Rolls::takes))]
+    fn take(&mut self) -> Option<Notice>
+        ensures value { result ≡ oldest self.old.waiting }
+        ensures after { self.new.waiting ≡ others self.old.waiting }
+        ensures left { self.old.room ≤ self.new.room }
+        ensures empty { self.new.waiting ≡ [] → self.new.room ≡ self.new.size }
+        ensures size { self.new.size ≡ self.old.size }
+        ensures exact { self.new.room + length self.new.waiting ≡ self.new.size }
+    {
         let left = self.count.checked_sub(1)?;
         let notice = self.places.get(self.first);
         self.first = place(self.first, 1, self.places.len());
